@@ -1,0 +1,2 @@
+// Corners, places and sides, and exact questions about them, in numbers of stated size.
+pub mod points;

@@ -1,0 +1,2 @@
+// Halls: shapes, their reader and writer, and what is refused.
+pub mod refusals;
