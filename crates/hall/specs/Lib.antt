@@ -1,1 +1,5 @@
 pub mod Refusals
+pub mod Bytes
+pub mod Tasks
+pub mod Format
+pub mod Laws
