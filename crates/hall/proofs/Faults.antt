@@ -6,7 +6,9 @@ use Prim.Native.Nat.{ℕ, zero, suc, _+_, _≤_, _<_}
 use native.Mathlib.Omega.{arith}
 use Rattle.std.specs.declared.option.Option.{Option}
 use Rattle.std.specs.declared.option.Option.the-variants.{None, Some}
-use Rattle.std.proofs.shelf.Tests.{and-parts, and-from, cases-eq}
+use Rattle.std.specs.declared.result.Result.{Result}
+use Rattle.hall.specs.Outlines.{Tells}
+use Rattle.std.proofs.shelf.Tests.{and-parts, and-from, and-left, and-right, cases-eq}
 use Rattle.hall.specs.declared.refusals.Refusal.{Refusal}
 use Rattle.hall.specs.Format.{_then_, first-below, unless, all-below}
 
@@ -20,6 +22,10 @@ none-then a b e = ap (λ (x : Option Refusal). x then b) e
 
 pub some-then : (a b : Option Refusal) (r : Refusal) → a ≡ Some r → a then b ≡ Some r
 some-then a b r e = ap (λ (x : Option Refusal). x then b) e
+
+-- ---- what an answer tells of the first of two
+pub tells-second : {X : Type 0} (r : Result X Refusal) (a b : Option Refusal) → a ≡ None → Tells r b → Tells r (a then b)
+tells-second r a b e t = rw (none-then a b e) t
 
 -- ---- a refusal, unless a test holds
 pub test-from-none : (t : Bool) (r : Refusal) → unless t r ≡ None → t ≡ true
@@ -66,3 +72,11 @@ all-at (suc n) f e k h =
 pub all-from : (n : ℕ) (f : ℕ → Bool) → ((k : ℕ) → k < n → f k ≡ true) → all-below n f ≡ true
 all-from zero f h = refl
 all-from (suc n) f h = and-from (all-below n f) (f n) (all-from n f (λ k l. h k (omega arith))) (h n (omega arith))
+
+pub all-step : (k : ℕ) (f : ℕ → Bool) → all-below k f ≡ true → f k ≡ true → all-below (k + 1) f ≡ true
+all-step k f e h = all-from (k + 1) f (λ j l. ⊎-elim (λ q. ap f q ∙ h) (λ q. all-at k f e j (omega arith)) (cases-eq j k))
+
+pub not-all : (n k : ℕ) (f : ℕ → Bool) → k < n → f k ≡ false → all-below n f ≡ false
+not-all zero k f h e = absurd (omega arith)
+not-all (suc n) k f h e =
+    ⊎-elim (λ q. and-right (all-below n f) (f n) (sym (ap f q) ∙ e)) (λ q. and-left (all-below n f) (f n) (not-all n k f (omega arith) e)) (cases-eq k n)

@@ -147,20 +147,28 @@ not-again s j = eqb j 0 || not (same-corner (corner s j) (corner s 0))
 unfoldable pub sound : Shape → Bool
 sound s = leb 3 (length s) && (all-below (length s) (bends-left s) && (all-below (length s) (right-of-none s) && all-below (length s) (not-again s)))
 
--- of a shape s: each bend is to the left, by the number of its middle corner 1, 2, .. and 0 last; then, that it goes round once, by the number of
--- the corner that shows the contrary; corner 0 begins at i
+-- of a shape s whose corner 0 begins at i: a bend that is not to the left, by its middle corner, so in the order 1, 2, .. and 0 last
+abbrev pub bend-at : Shape → ℕ → ℕ → Option Refusal
+bend-at s i k = unless (bends-left s k) (Bend (i + 4 * next (length s) k))
+
+-- a corner to the right of a side
+abbrev pub right-at : Shape → ℕ → ℕ → Option Refusal
+right-at s i k = unless (right-of-none s k) (Bend (i + 4 * k))
+
+-- a corner that is corner 0 again
+abbrev pub again-at : Shape → ℕ → ℕ → Option Refusal
+again-at s i k = unless (not-again s k) (Bend (i + 4 * k))
+
 unfoldable pub bend-fault : Shape → ℕ → Option Refusal
-bend-fault s i =
-    first-below (length s) (λ k. unless (bends-left s k) (Bend (i + 4 * next (length s) k)))
-    then first-below (length s) (λ k. unless (right-of-none s k) (Bend (i + 4 * k)))
-    then first-below (length s) (λ k. unless (not-again s k) (Bend (i + 4 * k)))
+bend-fault s i = first-below (length s) (bend-at s i) then first-below (length s) (right-at s i) then first-below (length s) (again-at s i)
 
 -- of the shape at i: its count, its numbers one by one, its bends
+abbrev pub number-at : ℕ → List ℕ → ℕ → ℕ → Option Refusal
+number-at m bs i k = unless (near m (signed-2 bs (i + 1 + 2 * k))) (Number (i + 1 + 2 * k))
+
 unfoldable pub shape-fault : ℕ → List ℕ → ℕ → Option Refusal
 shape-fault m bs i =
-    unless (leb 3 (byte bs i) && leb (byte bs i) 8) (Count i)
-    then first-below (2 * byte bs i) (λ k. unless (near m (signed-2 bs (i + 1 + 2 * k))) (Number (i + 1 + 2 * k)))
-    then bend-fault (shape-at bs i) (i + 1)
+    unless (leb 3 (byte bs i) && leb (byte bs i) 8) (Count i) then first-below (2 * byte bs i) (number-at m bs i) then bend-fault (shape-at bs i) (i + 1)
 
 -- of the place at i: x, y and w
 unfoldable pub place-fault : ℕ → List ℕ → ℕ → Option Refusal

@@ -1,3 +1,5 @@
 // Halls: shapes, their reader and writer, and what is refused.
-pub mod refusals;
+mod audit;
+mod bends;
 mod numbers;
+pub mod refusals;
