@@ -8,6 +8,8 @@ use Rattle.std.specs.declared.option.Option.{Option}
 use Rattle.std.specs.declared.option.Option.the-variants.{None, Some}
 use Rattle.std.specs.declared.result.Result.{Result}
 use Rattle.hall.specs.Outlines.{Tells}
+use Rattle.std.specs.Results.{ErrBy}
+use Rattle.std.proofs.shelf.Results.{err-from-errBy}
 use Rattle.std.proofs.shelf.Tests.{and-parts, and-from, and-left, and-right, cases-eq}
 use Rattle.hall.specs.declared.refusals.Refusal.{Refusal}
 use Rattle.hall.specs.Format.{_then_, first-below, unless, all-below}
@@ -26,6 +28,14 @@ some-then a b r e = ap (λ (x : Option Refusal). x then b) e
 -- ---- what an answer tells of the first of two
 pub tells-second : {X : Type 0} (r : Result X Refusal) (a b : Option Refusal) → a ≡ None → Tells r b → Tells r (a then b)
 tells-second r a b e t = rw (none-then a b e) t
+
+-- what is found after a question that has no fault
+pub later : (a b : Option Refusal) (r : Refusal) → a ≡ None → b ≡ Some r → a then b ≡ Some r
+later a b r e f = none-then a b e ∙ f
+
+-- the exit of a `?` hands on what the call told
+pub exits : {X : Type 0} (r : Result X Refusal) (e : Refusal) (fault : Option Refusal) → ErrBy r (λ y. y ≡ e) → fault ≡ Some e → Tells r fault
+exits r e fault b h = let p = err-from-errBy r b in rw (p .1, p .2) h
 
 -- ---- a refusal, unless a test holds
 pub test-from-none : (t : Bool) (r : Refusal) → unless t r ≡ None → t ≡ true

@@ -1,2 +1,11 @@
 pub mod Faults
 pub mod Outlines
+pub mod Questions
+pub mod Sounds
+pub mod Pieces
+pub mod Digits
+pub mod Laid
+pub mod Taken
+pub mod Roundtrip
+pub mod Corners
+pub mod Layouts

@@ -2,5 +2,8 @@ pub mod Refusals
 pub mod Bytes
 pub mod Tasks
 pub mod Format
-pub mod Outlines
 pub mod Laws
+pub mod Outlines
+pub mod Shapes
+pub mod Halls
+pub mod Routes

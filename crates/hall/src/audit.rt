@@ -5,7 +5,7 @@ ghost use Prim.Native.Nat.{ℕ, _+_, _-_, _*_, _^_, _<_, _≤_};
 ghost use lib.Dec.{leb};
 ghost use lib.ListN.{length, getD};
 ghost use Rattle.exact.specs.Points.{cornerOf, zero};
-ghost use Rattle.hall.specs.Bytes.{byte, little};
+ghost use Rattle.hall.specs.Bytes.{byte, little, signed-8};
 ghost use Rattle.hall.specs.Format.{near, unless, first-below, number-at, corner-at, past, shape-fault, place-fault, task-fault, way-fault};
 ghost use Rattle.hall.specs.Format.{count-from, thing-count, start-from};
 ghost use Rattle.hall.specs.Outlines.{Tells};
@@ -87,16 +87,33 @@ fn check_shape(bytes: &[u8], at: usize, limit: u64) -> Result<(), Refusal>
     check_bends(&corners[0..n as usize], at + 1)
 }
 
+fn check_ordinate(bytes: &[u8], at: usize, limit: u64) -> Result<(), Refusal>
+    requires at { ⌜ at < 2 ^ 32 ⌝ }
+    requires limit { ⌜ limit < 2 ^ 60 ⌝ }
+    ensures { λ r. ⌜ Tells r (unless (near limit (signed-8 (now (bytes .entry)) at)) (Refusal.Number at)) ⌝ }
+{
+    demand(is_near(limit, i64_at(bytes, at)), Refusal::Number(at))
+}
+
+fn check_weight(bytes: &[u8], at: usize, limit: u64) -> Result<(), Refusal>
+    requires { ⌜ at < 2 ^ 32 ⌝ }
+    ensures { λ r. ⌜ Tells r (unless (leb 1 (little 8 (now (bytes .entry)) at) && leb (little 8 (now (bytes .entry)) at) limit) (Refusal.Number at)) ⌝ }
+{
+    match u64_at(bytes, at) {
+        0 => Err(Refusal::Number(at)),
+        w => demand(w <= limit, Refusal::Number(at)),
+    }
+}
+
 // Refuses a place whose bytes begin at `at`.
 fn check_place(bytes: &[u8], at: usize, limit: u64) -> Result<(), Refusal>
     requires at { ⌜ at < 2 ^ 31 ⌝ }
     requires limit { ⌜ limit < 2 ^ 60 ⌝ }
     ensures { λ r. ⌜ Tells r (place-fault limit (now (bytes .entry)) at) ⌝ }
 {
-    demand(is_near(limit, i64_at(bytes, at)), Refusal::Number(at))?;
-    demand(is_near(limit, i64_at(bytes, at + 8)), Refusal::Number(at + 8))?;
-    let w = u64_at(bytes, at + 16);
-    demand(1 <= w && w <= limit, Refusal::Number(at + 16))
+    check_ordinate(bytes, at, limit)?;
+    check_ordinate(bytes, at + 8, limit)?;
+    check_weight(bytes, at + 16, limit)
 }
 
 // Where n shapes end that begin at `at`.
@@ -133,22 +150,47 @@ fn check_thing_count(n: u8, at: usize) -> Result<(), Refusal>
     }
 }
 
+fn check_wall(bytes: &[u8], at: usize) -> Result<(), Refusal>
+    requires { ⌜ at < 2 ^ 32 ⌝ }
+    ensures { λ r. ⌜ Tells r (unless (leb (little 2 (now (bytes .entry)) at) 1000) (Refusal.Number at)) ⌝ }
+{
+    demand(u16_at(bytes, at) <= 1000, Refusal::Number(at))
+}
+
+// Where the parts of a task's bytes begin, as its counts say.
+#[derive(Clone, Copy)]
+pub(crate) struct Layout {
+    pub count_from: usize,
+    pub things: u8,
+    pub start_from: usize,
+}
+
+pub(crate) fn lay_out(bytes: &[u8]) -> Layout
+    ensures count_from { λ r. ⌜ r .«count_from» ≡ count-from (now (bytes .entry)) ⌝ }
+    ensures things { λ r. ⌜ r .things ≡ thing-count (now (bytes .entry)) ⌝ }
+    ensures start_from { λ r. ⌜ r .«start_from» ≡ start-from (now (bytes .entry)) ⌝ }
+    ensures bound { λ r. ⌜ (r .«count_from» ≤ 1025) × (r .«start_from» ≤ 261381) ⌝ }
+{
+    let count_from = past_shapes(bytes, 4, 1);
+    let things = byte_at(bytes, count_from);
+    Layout { count_from, things, start_from: past_shapes(bytes, count_from + 1, things) }
+}
+
 // Refuses bytes that aren't those of a task that is taken.
 pub(crate) fn check_task(bytes: &[u8]) -> Result<(), Refusal>
     ensures { λ r. ⌜ Tells r (task-fault (now (bytes .entry))) ⌝ }
 {
-    let count_from = past_shapes(bytes, 4, 1);
-    let n = byte_at(bytes, count_from);
-    let start_from = past_shapes(bytes, count_from + 1, n);
-    let due = start_from + 48;
+    let Layout { count_from, things, start_from } = lay_out(bytes);
+    let goal_from = start_from + 24;
+    let due = goal_from + 24;
     demand(due <= bytes.len(), Refusal::Length(bytes.len()))?;
-    demand(u16_at(bytes, 0) <= 1000, Refusal::Number(0))?;
-    demand(u16_at(bytes, 2) <= 1000, Refusal::Number(2))?;
+    check_wall(bytes, 0)?;
+    check_wall(bytes, 2)?;
     check_shape(bytes, 4, LOAD_LIMIT)?;
-    check_thing_count(n, count_from)?;
-    check_things(bytes, count_from + 1, n)?;
+    check_thing_count(things, count_from)?;
+    check_things(bytes, count_from + 1, things)?;
     check_place(bytes, start_from, END_LIMIT)?;
-    check_place(bytes, start_from + 24, END_LIMIT)?;
+    check_place(bytes, goal_from, END_LIMIT)?;
     demand(bytes.len() <= due, Refusal::Length(due))
 }
 

@@ -1,5 +1,8 @@
 // Halls: shapes, their reader and writer, and what is refused.
 mod audit;
 mod bends;
+pub mod halls;
 mod numbers;
 pub mod refusals;
+pub mod routes;
+pub mod shapes;
