@@ -9,3 +9,6 @@ pub mod Taken
 pub mod Roundtrip
 pub mod Corners
 pub mod Layouts
+pub mod Numbered
+pub mod Drawings
+pub mod Readings

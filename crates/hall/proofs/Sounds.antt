@@ -1,7 +1,7 @@
 -- Shapes: the test decides whether one is sound, and where shapes and places stand among bytes. Assumes nothing.
 use mathlib.Core.Path.{_≡_, refl, _∙_, ap, ap₂}
 use mathlib.Core.Bool.{true, _&&_, not}
-use mathlib.Core.List.{List, [], _∷_}
+use mathlib.Core.List.{List, [], _∷_, _++_}
 use mathlib.Core.Logic.{⊎-elim}
 use Prim.Native.Nat.{ℕ, zero, suc, _+_, _*_, _≤_, _<_}
 use native.Mathlib.Omega.{arith}
@@ -158,6 +158,13 @@ pub getD-shapes-at : (n : ℕ) (bs : List ℕ) (i k : ℕ) → k < n → getD (s
 getD-shapes-at zero bs i k h = absurd (omega arith)
 getD-shapes-at (suc n) bs i zero h = refl
 getD-shapes-at (suc n) bs i (suc k) h = getD-shapes-at n bs (i + 1 + 4 * byte bs i) k (omega arith)
+
+-- one shape more
+pub shapes-at-more : (k : ℕ) (bs : List ℕ) (i : ℕ) → shapes-at (k + 1) bs i ≡ shapes-at k bs i ++ shape-at bs (past k bs i) ∷ []
+shapes-at-more zero bs i = refl
+shapes-at-more (suc k) bs i =
+    let e : suc k + 1 ≡ suc (k + 1) = omega arith in
+    ap (λ (n : ℕ). shapes-at n bs i) e ∙ ap (λ (ss : List Shape). shape-at bs i ∷ ss) (shapes-at-more k bs (i + 1 + 4 * byte bs i))
 
 pub length-places-at : (n : ℕ) (bs : List ℕ) (i : ℕ) → length (places-at n bs i) ≡ n
 length-places-at zero bs i = refl

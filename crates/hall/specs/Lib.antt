@@ -7,3 +7,4 @@ pub mod Outlines
 pub mod Shapes
 pub mod Halls
 pub mod Routes
+pub mod Reading

@@ -3,6 +3,7 @@ mod audit;
 mod bends;
 pub mod halls;
 mod numbers;
+pub mod reader;
 pub mod refusals;
 pub mod routes;
 pub mod shapes;
