@@ -19,15 +19,17 @@ use Rattle.std.proofs.shelf.Tests.{and-from}
 use Rattle.algebra.specs.Hall as hall
 use Rattle.algebra.specs.Hall.{Place, Sound}
 use Rattle.algebra.specs.Near.{Near}
+use Rattle.exact.specs.declared.points.Place as code
+use Rattle.exact.specs.Points.{placeOf}
 use Rattle.hall.specs.declared.refusals.Refusal.{Refusal}
 use Rattle.hall.specs.declared.shapes.Shape.{Shape}
 use Rattle.hall.specs.Format.{shape-at, shapes-at, past, thing-count, things-from, task-at, task-fault}
 use Rattle.hall.specs.Laws.{Bytes}
-use Rattle.hall.specs.Outlines.{within}
+use Rattle.hall.specs.Outlines.{bounded}
 use Rattle.hall.specs.Reading.{Drawn, Refused, Read}
 use Rattle.hall.specs.Shapes.{shapeOf, drawn-within}
-use Rattle.hall.specs.Tasks.{Task, Sized, Fit}
-use Rattle.hall.proofs.Drawings.{within-from-sized}
+use Rattle.hall.specs.Tasks.{Task, Sized, Bounded, Fit}
+use Rattle.hall.proofs.Drawings.{within-from-sized, bounded-from}
 use Rattle.hall.proofs.Sounds.{length-shapes-at, getD-shapes-at}
 use Rattle.hall.proofs.Taken.{fit-from-fault}
 
@@ -88,6 +90,11 @@ module _ (bs : List ℕ) (e : task-fault bs ≡ None) where
 pub all-within-from : {n : ℕ} (m : ℕ) (ss : List (Shape n)) → ((k : ℕ) → k < length (map shapeOf ss) → Sized m (getD (map shapeOf ss) k [])) → all-pass (drawn-within m) ss ≡ true
 all-within-from m [] h = refl
 all-within-from m (s ∷ ss) h = and-from _ _ (within-from-sized m (shapeOf s) (h 0 (omega arith))) (all-within-from m ss (λ k l. h (suc k) (omega arith)))
+
+-- the same of places
+pub all-bounded-from : (m : ℕ) (ps : List code.Place) → ((k : ℕ) (d : Place) → k < length (map placeOf ps) → Bounded m (getD (map placeOf ps) k d)) → all-pass (bounded m) ps ≡ true
+all-bounded-from m [] h = refl
+all-bounded-from m (p ∷ ps) h = and-from _ _ (bounded-from m p (h 0 (placeOf p) (omega arith))) (all-bounded-from m ps (λ k d l. h (suc k) d (omega arith)))
 
 -- a task, part by part
 pub same-task : {l l′ : hall.Shape} {ts ts′ : List hall.Shape} {w w′ h h′ : ℕ} {s s′ g g′ : Place} → l ≡ l′ → ts ≡ ts′ → w ≡ w′ → h ≡ h′ → s ≡ s′ → g ≡ g′ →

@@ -170,6 +170,14 @@ pub length-places-at : (n : ℕ) (bs : List ℕ) (i : ℕ) → length (places-at
 length-places-at zero bs i = refl
 length-places-at (suc n) bs i = ap suc (length-places-at n bs (i + 24))
 
+pub places-at-more : (k : ℕ) (bs : List ℕ) (i : ℕ) → places-at (k + 1) bs i ≡ places-at k bs i ++ place-at bs (i + 24 * k) ∷ []
+places-at-more zero bs i = ap (λ (j : ℕ). place-at bs j ∷ []) (omega arith)
+places-at-more (suc k) bs i =
+    let e : suc k + 1 ≡ suc (k + 1) = omega arith in
+    let j : i + 24 + 24 * k ≡ i + 24 * suc k = omega arith in
+    ap (λ (n : ℕ). places-at n bs i) e
+    ∙ (ap (λ (ps : List Place). place-at bs i ∷ ps) (places-at-more k bs (i + 24)) ∙ ap (λ (n : ℕ). place-at bs i ∷ (places-at k bs (i + 24) ++ place-at bs n ∷ [])) j)
+
 pub getD-places-at : (n : ℕ) (bs : List ℕ) (i k : ℕ) (d : Place) → k < n → getD (places-at n bs i) k d ≡ place-at bs (i + 24 * k)
 getD-places-at zero bs i k d h = absurd (omega arith)
 getD-places-at (suc n) bs i zero d h = ap (place-at bs) (omega arith)
