@@ -1,0 +1,16 @@
+// What a program has to say.
+use exact::points::Place;
+use hall::refusals::Refusal;
+
+#[derive(Clone, Copy)]
+pub enum Answer<'a> {
+    // over these places, the start and the end among them
+    Way(&'a [Place]),
+    // there is no way
+    None,
+    // the way that was given is one
+    Accepted,
+    // the work that was allowed did not suffice
+    Undecided,
+    Refused(Refusal),
+}

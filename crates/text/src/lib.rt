@@ -1,0 +1,7 @@
+// What the programs print.
+pub mod answers;
+pub mod fractions;
+mod refused;
+pub mod rendering;
+#[cfg(test)]
+mod tests;
