@@ -10,7 +10,7 @@ pub enum Answer<'a> {
     None,
     // the way that was given is one
     Accepted,
-    // the work that was allowed did not suffice
+    // it is not known whether there is one
     Undecided,
     Refused(Refusal),
 }

@@ -1,5 +1,6 @@
 // What the programs print.
 pub mod answers;
+pub mod console;
 pub mod fractions;
 mod refused;
 pub mod rendering;
