@@ -1,23 +1,10 @@
 // plan [FILE]: reads a hall from a file or from standard input, and prints how its load can be brought from start to goal.
-ghost use Rattle.plan.specs.Replies.{Replied};
-use hall::reader::read_hall;
-use std::alloc::Global;
 use std::env;
 use std::error::AnyError;
 use std::io::Read;
-use text::answers::Answer;
 use text::console::conclude;
 use text::console::read_file;
-
-// Halls are read, and not yet planned.
-fn reply<'a>(heap: Global, bytes: &[u8]) -> Answer<'a>
-    ensures { λ r. ⌜ Replied (now (bytes .entry)) r ⌝ }
-{
-    match read_hall(heap, bytes) {
-        Ok(_) => Answer::Undecided,
-        Err(refusal) => Answer::Refused(refusal),
-    }
-}
+use text::replies::plan_reply;
 
 fn input(rt: &LibcRuntime) -> Result<Vec<u8>, AnyError> {
     let mut words = env::args(rt)?;
@@ -34,5 +21,5 @@ fn input(rt: &LibcRuntime) -> Result<Vec<u8>, AnyError> {
 
 fn main(rt: LibcRuntime) -> Result<(), AnyError> {
     let bytes = input(&rt)?;
-    conclude(&rt, reply(rt.alloc(), bytes.as_slice()))
+    conclude(&rt, plan_reply(rt.alloc(), bytes.as_slice()))
 }

@@ -4,5 +4,6 @@ pub mod console;
 pub mod fractions;
 mod refused;
 pub mod rendering;
+pub mod replies;
 #[cfg(test)]
 mod tests;
