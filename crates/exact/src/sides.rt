@@ -6,7 +6,6 @@ ghost use Rattle.algebra.specs.Hall.{side, at};
 ghost use Rattle.algebra.specs.Near.{Near};
 ghost use Rattle.exact.specs.Points.{cornerOf, placeOf};
 ghost use Rattle.exact.specs.Sides.{CornerNear, SideNear, PlaceNear, DirectionNear};
-
 use crate::points::Corner;
 use crate::points::Place;
 use crate::points::Side;
@@ -22,7 +21,11 @@ impl Corner {
     pub fn place(self) -> Place
         ensures { λ r. ⌜ placeOf r ≡ at (cornerOf self) ⌝ }
     {
-        Place { x: self.x, y: self.y, w: 1 }
+        Place {
+            x: self.x,
+            y: self.y,
+            w: 1,
+        }
     }
 }
 
@@ -45,7 +48,10 @@ impl Side {
         ensures dy { λ r. ⌜ r .dy ≡ self .to .y -ℤ self .from .y ⌝ }
         ensures bound { λ r. ⌜ DirectionNear 4094 r ⌝ }
     {
-        Direction { dx: self.to.x - self.from.x, dy: self.to.y - self.from.y }
+        Direction {
+            dx: self.to.x - self.from.x,
+            dy: self.to.y - self.from.y,
+        }
     }
 }
 

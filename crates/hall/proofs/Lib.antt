@@ -12,3 +12,5 @@ pub mod Layouts
 pub mod Numbered
 pub mod Drawings
 pub mod Readings
+pub mod Written
+pub mod Kept

@@ -8,3 +8,4 @@ pub mod Shapes
 pub mod Halls
 pub mod Routes
 pub mod Reading
+pub mod Writing

@@ -2,8 +2,11 @@
 mod audit;
 mod bends;
 pub mod halls;
+pub mod laws;
 mod numbers;
 pub mod reader;
 pub mod refusals;
 pub mod routes;
 pub mod shapes;
+mod views;
+mod writer;

@@ -1,6 +1,8 @@
 // Shapes, as values: the first corners of an array, which make a sound shape.
-ghost use Prim.Native.Nat.{_≤_};
+ghost use Prim.Native.Nat.{_≤_, _<_};
+ghost use mathlib.Core.Path.{_≡_};
 ghost use lib.Dec.{T};
+ghost use lib.ListN.{length};
 ghost use Rattle.hall.specs.Format.{sound};
 ghost use Rattle.hall.specs.Outlines.{outline, within};
 use exact::points::Corner;
@@ -10,7 +12,7 @@ use exact::points::Corner;
 pub struct Shape<const N: usize> {
     pub(crate) corners: [Corner; N],
     pub(crate) count: u8,
-    ghost few: { count ≤ N },
+    ghost few: { (count ≤ N) × (length corners ≡ N) × (count < 256) },
     ghost near: { T (within 2047 (outline count corners)) },
     ghost sound: { T (sound (outline count corners)) },
 }

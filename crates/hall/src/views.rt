@@ -1,0 +1,82 @@
+// What shapes, halls and ways hold.
+ghost use mathlib.Core.Path.{_≡_};
+ghost use mathlib.Core.List.{[]};
+ghost use Prim.Native.Nat.{_<_, _≤_};
+ghost use lib.ListN.{length, getD};
+ghost use Rattle.std.specs.Of.Vec.{vec-items};
+ghost use Rattle.std.specs.Options.{Cases as BySome};
+ghost use Rattle.algebra.specs.Hall.{corner};
+ghost use Rattle.exact.specs.Points.{cornerOf, placeOf};
+ghost use Rattle.exact.specs.Sides.{CornerNear};
+ghost use Rattle.hall.specs.Halls.{taskOf};
+ghost use Rattle.hall.specs.Shapes.{shapeOf};
+use crate::halls::Hall;
+use crate::routes::Route;
+use crate::shapes::Shape;
+use exact::points::Corner;
+use exact::points::Place;
+
+impl<const N: usize> Shape<N> {
+    pub fn len(&self) -> usize
+        ensures value { λ r. ⌜ r ≡ length (shapeOf (now (self .entry))) ⌝ }
+        ensures bound { λ r. ⌜ (3 ≤ r) × (r ≤ N) ⌝ }
+    {
+        self.count as usize
+    }
+
+    pub fn corner(&self, i: usize) -> Corner
+        requires { ⌜ i < length (shapeOf (now self)) ⌝ }
+        ensures value { λ r. ⌜ cornerOf r ≡ corner (shapeOf (now (self .entry))) i ⌝ }
+        ensures bound { λ r. ⌜ CornerNear 2047 r ⌝ }
+    {
+        self.corners[i]
+    }
+}
+
+impl Hall {
+    pub fn load(&self) -> Shape<8>
+        ensures { λ r. ⌜ shapeOf r ≡ taskOf (now (self .entry)) .hall .load ⌝ }
+    {
+        self.load
+    }
+
+    // How many things there are.
+    pub fn count(&self) -> usize
+        ensures value { λ r. ⌜ r ≡ length (taskOf (now (self .entry)) .hall .things) ⌝ }
+        ensures bound { λ r. ⌜ r ≤ 40 ⌝ }
+    {
+        self.things.len()
+    }
+
+    pub fn wide(&self) -> u16
+        ensures { λ r. ⌜ r ≡ taskOf (now (self .entry)) .hall .wide ⌝ }
+    {
+        self.wide
+    }
+
+    pub fn high(&self) -> u16
+        ensures { λ r. ⌜ r ≡ taskOf (now (self .entry)) .hall .high ⌝ }
+    {
+        self.high
+    }
+
+    pub fn start(&self) -> Place
+        ensures { λ r. ⌜ placeOf r ≡ taskOf (now (self .entry)) .start ⌝ }
+    {
+        self.start
+    }
+
+    pub fn goal(&self) -> Place
+        ensures { λ r. ⌜ placeOf r ≡ taskOf (now (self .entry)) .goal ⌝ }
+    {
+        self.goal
+    }
+}
+
+impl Route {
+    pub fn places(&self) -> &[Place]
+        ensures { λ r. ⌜ now r ≡ vec-items (now (self .entry) .places) ⌝ }
+    {
+        self.places.as_slice()
+    }
+}
