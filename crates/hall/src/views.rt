@@ -1,14 +1,15 @@
 // What shapes, halls and ways hold.
 ghost use mathlib.Core.Path.{_≡_};
-ghost use mathlib.Core.List.{[]};
 ghost use Prim.Native.Nat.{_<_, _≤_};
-ghost use lib.ListN.{length, getD};
+ghost use lib.Dec.{T};
+ghost use lib.ListN.{length};
 ghost use Rattle.std.specs.Of.Vec.{vec-items};
-ghost use Rattle.std.specs.Options.{Cases as BySome};
 ghost use Rattle.algebra.specs.Hall.{corner};
 ghost use Rattle.exact.specs.Points.{cornerOf, placeOf};
 ghost use Rattle.exact.specs.Sides.{CornerNear};
+ghost use Rattle.hall.specs.Format.{sound};
 ghost use Rattle.hall.specs.Halls.{taskOf};
+ghost use Rattle.hall.specs.Outlines.{outline, within};
 ghost use Rattle.hall.specs.Shapes.{shapeOf};
 use crate::halls::Hall;
 use crate::routes::Route;
@@ -17,6 +18,15 @@ use exact::points::Corner;
 use exact::points::Place;
 
 impl<const N: usize> Shape<N> {
+    pub fn new(corners: [Corner; N], count: u8) -> Shape<N>
+        requires few { ⌜ (count ≤ N) × (length corners ≡ N) ⌝ }
+        requires near { ⌜ T (within 2047 (outline count corners)) ⌝ }
+        requires sound { ⌜ T (sound (outline count corners)) ⌝ }
+        ensures { λ r. ⌜ shapeOf r ≡ outline count (corners .entry) ⌝ }
+    {
+        Shape { corners, count }
+    }
+
     pub fn len(&self) -> usize
         ensures value { λ r. ⌜ r ≡ length (shapeOf (now (self .entry))) ⌝ }
         ensures bound { λ r. ⌜ (3 ≤ r) × (r ≤ N) ⌝ }
