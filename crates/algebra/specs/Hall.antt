@@ -106,7 +106,7 @@ between p q t u =
     record {
       x = ((p .x *ℤ pos (q .w)) *ℤ pos u) +ℤ ((q .x *ℤ pos (p .w)) *ℤ pos t);
       y = ((p .y *ℤ pos (q .w)) *ℤ pos u) +ℤ ((q .y *ℤ pos (p .w)) *ℤ pos t);
-      w = p .w * q .w * (t + u)
+      w = p .w * q .w * (t + u);
     }
 
 -- every place on the stretch is free, its ends too

@@ -14,5 +14,8 @@ fn main(rt: LibcRuntime) -> Result<(), AnyError> {
     };
     let hall_bytes = read_file(&rt, hall.as_str())?;
     let way_bytes = read_file(&rt, way.as_str())?;
-    conclude(&rt, check_reply(rt.alloc(), hall_bytes.as_slice(), way_bytes.as_slice()))
+    conclude(
+        &rt,
+        check_reply(rt.alloc(), hall_bytes.as_slice(), way_bytes.as_slice()),
+    )
 }

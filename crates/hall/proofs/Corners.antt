@@ -29,7 +29,6 @@ near-within m l z h e = let n = near-from-test m z e in record { low = omega (ar
 -- eight corners cs were read from the byte `from` on, of which n make a shape
 module _ (bs : List ℕ) (cs : List Corner) (from n : ℕ) (room : length cs ≡ 8) (few : n ≤ 8)
     (reads : (k : ℕ) → k < 8 → cornerOf (getD cs k zero) ≡ corner-at bs (from + 4 * k)) where
-
   pub length-read : length (take n cs) ≡ n
   length-read = length-take-le n cs (omega arith)
 
@@ -41,8 +40,8 @@ module _ (bs : List ℕ) (cs : List Corner) (from n : ℕ) (room : length cs ≡
       let e : length (outlineOf (take n cs)) ≡ n = length-outline (take n cs) ∙ length-read in
       ext-getD (record { x = pos 0; y = pos 0 }) _ _ (e ∙ sym (length-corners-at n bs from))
       (λ i h.
-          let l : i < n = subst (λ (m : ℕ). i < m) e h in
-          corner-outline (take n cs) i ∙ (corner-read i l ∙ sym (corner-corners-at n bs from i l)))
+      let l : i < n = subst (λ (m : ℕ). i < m) e h in
+      corner-outline (take n cs) i ∙ (corner-read i l ∙ sym (corner-corners-at n bs from i l)))
 
   pub each-near-read : (m l : ℕ) → m ≤ l → ((k : ℕ) → k < 2 * n → near m (signed-2 bs (from + 2 * k)) ≡ true) → EachNear l (take n cs)
   unfolding EachNear
@@ -55,7 +54,7 @@ module _ (bs : List ℕ) (cs : List Corner) (from n : ℕ) (room : length cs ≡
       let v : near m (signed-2 bs (from + 4 * i + 2)) ≡ true = rw y at (h (2 * i + 1) (omega arith)) in
       record {
         x = near-within m l _ b (ap (λ (d : hall.Corner). near m (d .x)) c ∙ u);
-        y = near-within m l _ b (ap (λ (d : hall.Corner). near m (d .y)) c ∙ v)
+        y = near-within m l _ b (ap (λ (d : hall.Corner). near m (d .y)) c ∙ v);
       }
 
 -- the tests of the numbers of a shape at `at`, one by one

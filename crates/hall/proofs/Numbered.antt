@@ -56,7 +56,6 @@ Below x y r = Ranked r (x < y) (x ≡ y) (y < x)
 
 module _ {X Z : Type 0} (m n : BTreeMap ℕ X Z) (k : ℕ) (v : X) (old : Option X) (ins : Inserted Below m n k v (Ok old)) (o : Ordered unsigned m)
     (count : length (keys m) ≡ k) (num : Numbered (keys m)) where
-
   -- only numbers below k are there
   there : (q : ℕ) (x : X) → at unsigned m q ≡ Some x → q < k
   there q x e =
@@ -116,16 +115,16 @@ module _ {X Z : Type 0} (m n : BTreeMap ℕ X Z) (k : ℕ) (v : X) (old : Option
       let vn : length (vals n) ≡ k + 1 = ordered .0 ∙ more in
       same-lists (vals n) (vals m ++ v ∷ []) (omega (arith, length-append (vals m) (v ∷ [])))
       (λ i d h.
-          getD-default (vals n) i d v h
-          ∙ ⊎-elim
-            (λ s.
-                let f : getD (vals n) i v ≡ v = same-some _ _ (sym (value-at i (omega arith)) ∙ (ap (at unsigned n) s ∙ put .here)) in
-                f ∙ sym (getD-push (vals m) v d i (vm ∙ sym s)))
-            (λ s.
-                let l : i < k = omega arith in
-                let f : getD (vals n) i v ≡ getD (vals m) i v = same-some _ _ (sym (value-at i (omega arith)) ∙ (other i s ∙ value-before i l)) in
-                f ∙ (getD-default (vals m) i v d (omega arith) ∙ sym (getD-append-left (vals m) (v ∷ []) d i (omega arith))))
-            (cases-eq i k))
+      getD-default (vals n) i d v h
+      ∙ ⊎-elim
+      (λ s.
+      let f : getD (vals n) i v ≡ v = same-some _ _ (sym (value-at i (omega arith)) ∙ (ap (at unsigned n) s ∙ put .here)) in
+      f ∙ sym (getD-push (vals m) v d i (vm ∙ sym s)))
+      (λ s.
+      let l : i < k = omega arith in
+      let f : getD (vals n) i v ≡ getD (vals m) i v = same-some _ _ (sym (value-at i (omega arith)) ∙ (other i s ∙ value-before i l)) in
+      f ∙ (getD-default (vals m) i v d (omega arith) ∙ sym (getD-append-left (vals m) (v ∷ []) d i (omega arith))))
+      (cases-eq i k))
 
 -- an insertion that is no refusal
 pub inserted-ok : {X Z : Type 0} (m n : BTreeMap ℕ X Z) (k : ℕ) (v : X) (r : Result (Option X) (Refused (ℕ × X))) → isErr r ≡ false → Inserted Below m n k v r → (old : Option X) × Inserted Below m n k v (Ok old)

@@ -41,7 +41,6 @@ bytes-from-fits (b ∷ bs) h = (let f = h 0 in omega (arith, f .fits), bytes-fro
 -- ---- a refusal
 module _ {X V : Type 0} (fault : List ℕ → Option Refusal) (at : List ℕ → X) (Good : X → Type 0) (write : X → List ℕ) (of : V → X)
     (back : (x : X) → Good x → fault (write x) ≡ None) where
-
   refused-from : (bs : List ℕ) (e : Refusal) → fault bs ≡ Some e → Refused fault at Good write bs e
   refused-from bs e h =
       record { first = h; nothing = λ x g w. let n : fault bs ≡ None = ap fault w ∙ back x g in let z : _≡_ {A = ℕ} 0 1 = cc in omega arith }
@@ -79,7 +78,7 @@ module _ (bs : List ℕ) (e : task-fault bs ≡ None) where
   thing-drawn k h =
       record {
         sized = wider 1000 2047 (shape-at bs (past k bs (things-from bs))) (omega arith) (thing-sized k h);
-        sound = subst Sound (getD-shapes-at (thing-count bs) bs (things-from bs) k h) (fit .proper .things k (rw length-shapes-at h))
+        sound = subst Sound (getD-shapes-at (thing-count bs) bs (things-from bs) k h) (fit .proper .things k (rw length-shapes-at h));
       }
 
   pub few-things : thing-count bs ≤ 40

@@ -92,7 +92,7 @@ task-at bs =
     record {
       hall = record { load = shape-at bs 4; things = shapes-at (thing-count bs) bs (things-from bs); wide = little 2 bs 0; high = little 2 bs 2 };
       start = place-at bs (start-from bs);
-      goal = place-at bs (goal-from bs)
+      goal = place-at bs (goal-from bs);
     }
 
 abbrev pub way-due : List ℕ → ℕ

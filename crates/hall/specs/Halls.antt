@@ -12,5 +12,5 @@ taskOf h =
     record {
       hall = record { load = shapeOf (h .load); things = map shapeOf (vals (h .things)); wide = h .wide; high = h .high };
       start = placeOf (h .start);
-      goal = placeOf (h .goal)
+      goal = placeOf (h .goal);
     }

@@ -20,8 +20,11 @@ use exact::points::Corner;
 
 // How large the numbers of corners and places may be, and how many things there may be.
 pub const LOAD_LIMIT: u64 = 200;
+
 pub const THING_LIMIT: u64 = 1000;
+
 pub const END_LIMIT: u64 = 1 << 20;
+
 pub const WAY_LIMIT: u64 = (1 << 60) - 1;
 
 fn demand(holds: bool, refusal: Refusal) -> Result<(), Refusal>
@@ -69,7 +72,10 @@ pub(crate) fn corners_at(bytes: &[u8], from: usize) -> [Corner; 8]
     let mut corners = [Corner { x: 0, y: 0 }; 8];
     for k in 0..8 {
         let at = from + 4 * k;
-        corners[k] = Corner { x: i16_at(bytes, at), y: i16_at(bytes, at + 2) };
+        corners[k] = Corner {
+            x: i16_at(bytes, at),
+            y: i16_at(bytes, at + 2),
+        };
     }
     corners
 }
@@ -173,14 +179,22 @@ pub(crate) fn lay_out(bytes: &[u8]) -> Layout
 {
     let count_from = past_shapes(bytes, 4, 1);
     let things = byte_at(bytes, count_from);
-    Layout { count_from, things, start_from: past_shapes(bytes, count_from + 1, things) }
+    Layout {
+        count_from,
+        things,
+        start_from: past_shapes(bytes, count_from + 1, things),
+    }
 }
 
 // Refuses bytes that aren't those of a task that is taken.
 pub(crate) fn check_task(bytes: &[u8]) -> Result<(), Refusal>
     ensures { λ r. ⌜ Tells r (task-fault (now (bytes .entry))) ⌝ }
 {
-    let Layout { count_from, things, start_from } = lay_out(bytes);
+    let Layout {
+        count_from,
+        things,
+        start_from,
+    } = lay_out(bytes);
     let goal_from = start_from + 24;
     let due = goal_from + 24;
     demand(due <= bytes.len(), Refusal::Length(bytes.len()))?;

@@ -34,7 +34,10 @@ fn shape_at(bytes: &[u8], at: usize) -> Shape<8>
     requires drawn { ⌜ Drawn 2047 (shape-at (now bytes) at) ⌝ }
     ensures { λ r. ⌜ shapeOf r ≡ shape-at (now (bytes .entry)) at ⌝ }
 {
-    Shape { corners: corners_at(bytes, at + 1), count: byte_at(bytes, at) }
+    Shape {
+        corners: corners_at(bytes, at + 1),
+        count: byte_at(bytes, at),
+    }
 }
 
 // The place whose bytes begin at `at`.
@@ -42,11 +45,20 @@ fn place_at(bytes: &[u8], at: usize) -> Place
     requires { ⌜ at < 2 ^ 31 ⌝ }
     ensures { λ r. ⌜ placeOf r ≡ place-at (now (bytes .entry)) at ⌝ }
 {
-    Place { x: i64_at(bytes, at), y: i64_at(bytes, at + 8), w: u64_at(bytes, at + 16) }
+    Place {
+        x: i64_at(bytes, at),
+        y: i64_at(bytes, at + 8),
+        w: u64_at(bytes, at + 16),
+    }
 }
 
 // The n things whose bytes begin at `at`, by their numbers.
-fn things_at(heap: Global, bytes: &[u8], at: usize, n: u8) -> Result<BTreeMap<u8, Shape<8>>, Refusal>
+fn things_at(
+    heap: Global,
+    bytes: &[u8],
+    at: usize,
+    n: u8,
+) -> Result<BTreeMap<u8, Shape<8>>, Refusal>
     requires at { ⌜ at < 2 ^ 20 ⌝ }
     requires drawn { ⌜ ((k : ℕ) → k < n → Drawn 2047 (shape-at (now bytes) (past k (now bytes) at))) ⌝ }
     ensures { λ r. ⌜ Cases r (λ m. (map shapeOf (vals m) ≡ shapes-at n (now (bytes .entry)) at) × (size m ≡ n) × TreeLawful unsigned m) (λ e. e ≡ Refusal.Memory) ⌝ }

@@ -21,7 +21,10 @@ fn hall_line(rt: &LibcRuntime, name: &str) -> Result<(), AnyError> {
 fn way_line(rt: &LibcRuntime, hall: &str, way: &str) -> Result<(), AnyError> {
     let hall_bytes = bytes_of(rt, hall, "hall")?;
     let way_bytes = bytes_of(rt, way, "way")?;
-    let reply = render(rt.alloc(), check_reply(rt.alloc(), hall_bytes.as_slice(), way_bytes.as_slice()))?;
+    let reply = render(
+        rt.alloc(),
+        check_reply(rt.alloc(), hall_bytes.as_slice(), way_bytes.as_slice()),
+    )?;
     print!(rt, "{hall} {way}: {reply}")?;
     Ok(())
 }
@@ -32,13 +35,19 @@ fn cut_lines(rt: &LibcRuntime, name: &str) -> Result<(), AnyError> {
     let whole = bytes.len();
     let mut right = 0usize;
     for length in 0..whole {
-        let reply = render(rt.alloc(), plan_reply(rt.alloc(), &bytes.as_slice()[0..length]))?;
+        let reply = render(
+            rt.alloc(),
+            plan_reply(rt.alloc(), &bytes.as_slice()[0..length]),
+        )?;
         let expected = format!(rt.alloc(), "refused 1 at {length}\n")?;
         if reply.as_str() == expected.as_str() {
             right = right.saturating_add(1);
         }
     }
-    println!(rt, "{name}: {right} of {whole} cuts are refused at their length")?;
+    println!(
+        rt,
+        "{name}: {right} of {whole} cuts are refused at their length"
+    )?;
     bytes.push(0)?;
     let reply = render(rt.alloc(), plan_reply(rt.alloc(), bytes.as_slice()))?;
     print!(rt, "{name} and a byte: {reply}")?;

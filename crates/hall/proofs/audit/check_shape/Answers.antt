@@ -32,12 +32,12 @@ check-bends-requires c κs =
     let bs = c .args .bytes .now in
     let at = c .args .at in
     let t : (k : ℕ) → k < 2 * n → near (c .args .limit) (signed-2 bs (at + 1 + 2 * k)) ≡ true =
-        λ k l. numbers-near (c .args .limit) bs at (2 * byte bs at) (c .in-Continue-check-numbers .ensures tt) k (omega (arith, c .byte-at-n .ensures)) in
+    λ k l. numbers-near (c .args .limit) bs at (2 * byte bs at) (c .in-Continue-check-numbers .ensures tt) k (omega (arith, c .byte-at-n .ensures)) in
     let e : length (take n (c .corners-at-corners .result)) ≡ n = length-read bs (c .corners-at-corners .result) (at + 1) n room h (c .corners-at-corners .ensures) in
     record {
       near = rw z (each-near-read bs (c .corners-at-corners .result) (at + 1) n room h (c .corners-at-corners .ensures) (c .args .limit) 2047 (c .pre .limit) t);
       few = rw z (omega (arith, e));
-      from = omega arith
+      from = omega arith;
     }
 
 pub returns : need.returns
@@ -51,6 +51,6 @@ returns c =
     let at = c .args .at in
     let e : outlineOf (take n (c .corners-at-corners .result)) ≡ corners-at n bs (at + 1) = outline-read bs (c .corners-at-corners .result) (at + 1) n room h (c .corners-at-corners .ensures) in
     let f : outlineOf (take (n - 0) (c .corners-at-corners .result)) ≡ shape-at bs at =
-        ap (λ (m : ℕ). outlineOf (take m (c .corners-at-corners .result))) z ∙ (e ∙ ap (λ (m : ℕ). corners-at m bs (at + 1)) (c .byte-at-n .ensures)) in
+    ap (λ (m : ℕ). outlineOf (take m (c .corners-at-corners .result))) z ∙ (e ∙ ap (λ (m : ℕ). corners-at m bs (at + 1)) (c .byte-at-n .ensures)) in
     tells-second _ _ _ (simp (c .byte-at-n .ensures) at (c .in-Continue-check-count .ensures tt))
     (tells-second _ _ _ (c .in-Continue-check-numbers .ensures tt) (simp f at (c .check-bends .ensures)))

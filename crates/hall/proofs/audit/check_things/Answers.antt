@@ -18,9 +18,8 @@ pub loop-again : need.loop-again
 loop-again c =
     let bs = c .args .bytes .now in
     let k = c .loop .counter in
-    let e : byte bs (c .loop .from) ≡ byte bs (past k bs (c .args .at)) = ap (byte bs) (c .loop .inv .0) in
-    (
-        omega (arith, past-more k bs (c .args .at), e, c .byte-at .ensures),
-        omega arith,
-        below-step k _ (c .loop .inv .2) (ap (shape-fault 1000 bs) (sym (c .loop .inv .0)) ∙ c .in-Continue-check-shape .ensures tt)
+    let e : byte bs (c .loop .from) ≡ byte bs (past k bs (c .args .at)) = ap (byte bs) (c .loop .inv .0) in (
+      omega (arith, past-more k bs (c .args .at), e, c .byte-at .ensures),
+      omega arith,
+      below-step k _ (c .loop .inv .2) (ap (shape-fault 1000 bs) (sym (c .loop .inv .0)) ∙ c .in-Continue-check-shape .ensures tt),
     )

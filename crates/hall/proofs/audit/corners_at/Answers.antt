@@ -20,11 +20,10 @@ pub loop-k-again : need.loop-k-again
 loop-k-again c =
     let cs = c .loop-k .corners in
     let i = c .loop-k .k in
-    let l : i < length cs = omega arith in
-    (
-        below-more _ _
-        (λ k h. let ne : k ≢ i = omega arith in ap cornerOf (getD-set-other cs i k _ zero ne) ∙ c .loop-k .inv .0 k h)
-        (ap cornerOf (getD-set-same cs i _ zero l)
-        ∙ ap₂ make (toZ-ofZ w64 (c .i16-at .result) (search needs) ∙ c .i16-at .ensures) (toZ-ofZ w64 (c .i16-at-in-loop-k .result) (search needs) ∙ c .i16-at-in-loop-k .ensures)),
-        length-set cs i _ ∙ c .loop-k .inv .1
+    let l : i < length cs = omega arith in (
+      below-more _ _
+          (λ k h. let ne : k ≢ i = omega arith in ap cornerOf (getD-set-other cs i k _ zero ne) ∙ c .loop-k .inv .0 k h)
+          (ap cornerOf (getD-set-same cs i _ zero l)
+          ∙ ap₂ make (toZ-ofZ w64 (c .i16-at .result) (search needs) ∙ c .i16-at .ensures) (toZ-ofZ w64 (c .i16-at-in-loop-k .result) (search needs) ∙ c .i16-at-in-loop-k .ensures)),
+      length-set cs i _ ∙ c .loop-k .inv .1,
     )

@@ -16,5 +16,5 @@ returns c =
     let s = outlineOf (c .args .corners .now) in
     let l : length (c .args .corners .now) ≡ length s = sym (length-outline (c .args .corners .now)) in
     let j : c .after-2 .result ≡ next (length s) (next (length s) (c .args .i)) =
-        c .after-2 .ensures .value ∙ (ap (next (length (c .args .corners .now))) (c .after .ensures .value) ∙ ap (λ (n : ℕ). next n (next n (c .args .i))) l) in
+    c .after-2 .ensures .value ∙ (ap (next (length (c .args .corners .now))) (c .after .ensures .value) ∙ ap (λ (n : ℕ). next n (next n (c .args .i))) l) in
     ap (ltZ (pos 0)) (toZ-ofZ w64 (c .edge-at .result) (search needs) ∙ (c .edge-at .ensures ∙ ap (λ (k : ℕ). edge s (c .args .i) (at (corner s k))) j))

@@ -30,7 +30,7 @@ things-at-requires c κs =
       at = omega arith;
       drawn = λ k l.
           subst (λ (n : ℕ). Drawn 2047 (shape-at bs (past k bs (n + 1)))) (sym (c .lay-out-layout .ensures .count-from))
-          (thing-drawn bs (c .in-Continue-check-task .ensures tt) k (omega (arith, c .lay-out-layout .ensures .things)))
+          (thing-drawn bs (c .in-Continue-check-task .ensures tt) k (omega (arith, c .lay-out-layout .ensures .things)));
     }
 
 pub shape-at-requires : need.shape-at-requires
@@ -62,28 +62,27 @@ ghost-result c =
     let b = few-things bs e in
     let ts = m .0 ∙ things-are bs l (g .count-from) (g .things) (g .start-from) in
     let s = c .place-at .ensures ∙ start-is bs l (g .count-from) (g .things) (g .start-from) in
-    let t = c .place-at-2 .ensures ∙ goal-is bs l (g .count-from) (g .things) (g .start-from) in
-    (
-        (omega (arith, f .wide, c .u16-at .ensures), omega (arith, f .high, c .u16-at-2 .ensures)),
+    let t = c .place-at-2 .ensures ∙ goal-is bs l (g .count-from) (g .things) (g .start-from) in (
+      (omega (arith, f .wide, c .u16-at .ensures), omega (arith, f .high, c .u16-at-2 .ensures)),
+      (
+        omega (arith, m .1, g .things),
         (
-            omega (arith, m .1, g .things),
+          m .2,
+          (
             (
-                m .2,
-                (
-                    (
-                        holds (ap (within 200) (c .shape-at .ensures) ∙ within-from-sized 200 (shape-at bs 4) (load-sized bs e)),
-                        holds (all-within-from 1000 (vals (c .in-Continue-things .things)) (subst EachSized (sym ts) (f .things)))
-                    ),
-                    (
-                        (
-                            holds (bounded-from (2 ^ 20) (c .place-at .result) (subst (Bounded (2 ^ 20)) (sym s) (f .start))),
-                            holds (bounded-from (2 ^ 20) (c .place-at-2 .result) (subst (Bounded (2 ^ 20)) (sym t) (f .goal)))
-                        ),
-                        tt
-                    )
-                )
-            )
-        )
+              holds (ap (within 200) (c .shape-at .ensures) ∙ within-from-sized 200 (shape-at bs 4) (load-sized bs e)),
+              holds (all-within-from 1000 (vals (c .in-Continue-things .things)) (subst EachSized (sym ts) (f .things))),
+            ),
+            (
+              (
+                holds (bounded-from (2 ^ 20) (c .place-at .result) (subst (Bounded (2 ^ 20)) (sym s) (f .start))),
+                holds (bounded-from (2 ^ 20) (c .place-at-2 .result) (subst (Bounded (2 ^ 20)) (sym t) (f .goal))),
+              ),
+              tt,
+            ),
+          ),
+        ),
+      ),
     )
 
 pub returns : need.returns
@@ -94,7 +93,7 @@ returns c =
     let g = c .lay-out-layout .ensures in
     let e = c .in-Continue-check-task .ensures tt in
     let r =
-        same-task (c .shape-at .ensures) (c .in-Continue-things .ensures tt .0 ∙ things-are bs l (g .count-from) (g .things) (g .start-from)) (c .u16-at .ensures) (c .u16-at-2 .ensures)
-        (c .place-at .ensures ∙ start-is bs l (g .count-from) (g .things) (g .start-from)) (c .place-at-2 .ensures ∙ goal-is bs l (g .count-from) (g .things) (g .start-from)) in
+    same-task (c .shape-at .ensures) (c .in-Continue-things .ensures tt .0 ∙ things-are bs l (g .count-from) (g .things) (g .start-from)) (c .u16-at .ensures) (c .u16-at-2 .ensures)
+    (c .place-at .ensures ∙ start-is bs l (g .count-from) (g .things) (g .start-from)) (c .place-at-2 .ensures ∙ goal-is bs l (g .count-from) (g .things) (g .start-from)) in
     let w = task-writes-back bs (bytes-from-fits bs (c .typed .bytes)) e in
     record { faultless = e; read = r; written = sym (w .0) ∙ ap task-bytes (sym r); good = subst Fit (sym r) (w .1) }

@@ -30,10 +30,9 @@ ghost-result c =
     let bs = c .args .bytes .now in
     let v = c .in-Continue-places .places in
     let w = way-writes-back bs (bytes-from-fits bs (c .typed .bytes)) (c .in-Continue-check-way .ensures tt) .1 in
-    let r = c .in-Continue-places .ensures tt ∙ ap (λ (n : ℕ). places-at n bs 2) (c .u16-at .ensures) in
-    (
-        omega (arith, w .few, ap length r, length-map (vec-items v) placeOf, v .ok .0),
-        (holds (all-bounded-from (2 ^ 60 - 1) (vec-items v) (subst EachBounded (sym r) (w .places))), tt)
+    let r = c .in-Continue-places .ensures tt ∙ ap (λ (n : ℕ). places-at n bs 2) (c .u16-at .ensures) in (
+      omega (arith, w .few, ap length r, length-map (vec-items v) placeOf, v .ok .0),
+      (holds (all-bounded-from (2 ^ 60 - 1) (vec-items v) (subst EachBounded (sym r) (w .places))), tt),
     )
 
 pub returns : need.returns

@@ -30,13 +30,12 @@ ghost-result c =
     let cs = c .corners-at .result in
     let room : length cs ≡ 8 = search needs in
     let e = made bs cs (c .args .at) (c .byte-at .result) room (c .byte-at .ensures) (c .corners-at .ensures) (c .pre .drawn) in
-    let f = few bs cs (c .args .at) (c .byte-at .result) room (c .byte-at .ensures) (c .corners-at .ensures) (c .pre .drawn) in
-    (
-        (f, room, omega arith),
-        (
-            holds (ap (within 2047) e ∙ within-from-sized 2047 (shape-at bs (c .args .at)) (c .pre .drawn .sized)),
-            (holds (ap sound e ∙ true-sound (shape-at bs (c .args .at)) (c .pre .drawn .sound)), tt)
-        )
+    let f = few bs cs (c .args .at) (c .byte-at .result) room (c .byte-at .ensures) (c .corners-at .ensures) (c .pre .drawn) in (
+      (f, room, omega arith),
+      (
+        holds (ap (within 2047) e ∙ within-from-sized 2047 (shape-at bs (c .args .at)) (c .pre .drawn .sized)),
+        (holds (ap sound e ∙ true-sound (shape-at bs (c .args .at)) (c .pre .drawn .sound)), tt),
+      ),
     )
 
 pub returns : need.returns

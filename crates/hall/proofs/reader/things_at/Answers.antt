@@ -25,22 +25,20 @@ loop-k-again c =
     let v = c .shape-at .result in
     let i = inserted-ok m n k v (c .insert .result) (search needs) (c .insert .ensures .inserted) in
     let e : byte bs (c .loop-k .from) ≡ byte bs (past k bs at) = ap (byte bs) (inv .0) in
-    let s : shapeOf v ≡ shape-at bs (past k bs at) = c .shape-at .ensures ∙ ap (shape-at bs) (inv .0) in
-    (
-        omega (arith, past-more k bs at, e, c .byte-at .ensures),
-        omega arith,
-        ordered m n k v (i .0) (i .1) (inv .2) (inv .3) (inv .4),
-        more m n k v (i .0) (i .1) (inv .2) (inv .3) (inv .4),
-        numbered m n k v (i .0) (i .1) (inv .2) (inv .3) (inv .4),
-        ap (map shapeOf) (appended m n k v (i .0) (i .1) (inv .2) (inv .3) (inv .4))
-        ∙ (map-push shapeOf _ v ∙ (ap₂ (λ (ss : List Shape) (t : Shape). ss ++ t ∷ []) (inv .5) s ∙ sym (shapes-at-more k bs at)))
+    let s : shapeOf v ≡ shape-at bs (past k bs at) = c .shape-at .ensures ∙ ap (shape-at bs) (inv .0) in (
+      omega (arith, past-more k bs at, e, c .byte-at .ensures),
+      omega arith,
+      ordered m n k v (i .0) (i .1) (inv .2) (inv .3) (inv .4),
+      more m n k v (i .0) (i .1) (inv .2) (inv .3) (inv .4),
+      numbered m n k v (i .0) (i .1) (inv .2) (inv .3) (inv .4),
+      ap (map shapeOf) (appended m n k v (i .0) (i .1) (inv .2) (inv .3) (inv .4))
+          ∙ (map-push shapeOf _ v ∙ (ap₂ (λ (ss : List Shape) (t : Shape). ss ++ t ∷ []) (inv .5) s ∙ sym (shapes-at-more k bs at))),
     )
 
 pub returns : need.returns
 returns c =
-    let e : c .loop-k .k ≡ c .args .n = omega arith in
-    (
-        c .loop-k .inv .5 ∙ ap (λ (k : ℕ). shapes-at k (c .args .bytes .now) (c .args .at)) e,
-        size-keys (c .loop-k .things) ∙ (c .loop-k .inv .3 ∙ e),
-        lawful-from-tree unsigned (c .loop-k .things) (c .loop-k .inv .2)
+    let e : c .loop-k .k ≡ c .args .n = omega arith in (
+      c .loop-k .inv .5 ∙ ap (λ (k : ℕ). shapes-at k (c .args .bytes .now) (c .args .at)) e,
+      size-keys (c .loop-k .things) ∙ (c .loop-k .inv .3 ∙ e),
+      lawful-from-tree unsigned (c .loop-k .things) (c .loop-k .inv .2),
     )
