@@ -20,7 +20,8 @@ use Rattle.exact.specs.declared.points.Place as code
 use Rattle.exact.specs.declared.points.Side.{Side}
 use Rattle.exact.specs.Points.{cornerOf, placeOf}
 use Rattle.exact.specs.Sides.{SideNear, PlaceNear, turning}
-use Rattle.exact.specs.Meets.{Same, Among, On, EndsOf, Met}
+use Rattle.algebra.specs.Forms.{Same}
+use Rattle.exact.specs.Meets.{Among, On, EndsOf, Met}
 use Rattle.exact.proofs.Bounds.{by-near}
 
 -- ---- signs

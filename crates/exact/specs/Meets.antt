@@ -7,17 +7,13 @@ use Rattle.std.specs.Options.{Cases}
 use Rattle.std.specs.declared.option.Option.{Option}
 use Rattle.algebra.specs.Hall as hall
 use Rattle.algebra.specs.Hall.{at, between, side}
+use Rattle.algebra.specs.Forms.{Same}
 use Rattle.algebra.specs.Near.{Near}
 use Rattle.exact.specs.declared.meets.Ends.{Ends}
 use Rattle.exact.specs.declared.points.Place.{Place}
 use Rattle.exact.specs.declared.points.Side.{Side}
 use Rattle.exact.specs.Points.{cornerOf, placeOf}
 use Rattle.exact.specs.Sides.{PlaceNear, turning}
-
--- two ways to write the same place
-pub record Same (p q : hall.Place) : Type 0 where
-  pub x : p .x *ℤ pos (q .w) ≡ q .x *ℤ pos (p .w)
-  pub y : p .y *ℤ pos (q .w) ≡ q .y *ℤ pos (p .w)
 
 -- a place between the corners a and b, or at one of them
 pub record Among (a b : hall.Corner) (p : hall.Place) : Type 0 where

@@ -2,7 +2,7 @@
 ghost use mathlib.Core.Path.{_≡_};
 ghost use Prim.Native.Nat.{_-_, _^_};
 ghost use Rattle.std.specs.Orderings.{Decides, Ranked};
-ghost use Rattle.exact.specs.Meets.{Same};
+ghost use Rattle.algebra.specs.Forms.{Same};
 ghost use Rattle.exact.specs.Orders.{LeftOf, InLine, Lower, Level, FallOf};
 ghost use Rattle.exact.specs.Points.{placeOf};
 ghost use Rattle.exact.specs.Sides.{SideNear, PlaceNear};

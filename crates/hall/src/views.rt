@@ -1,21 +1,25 @@
 // What shapes, halls and ways hold.
+ghost use mathlib.Core.List.{map};
 ghost use mathlib.Core.Path.{_≡_};
-ghost use Prim.Native.Nat.{_<_, _≤_};
+ghost use Prim.Native.Nat.{_<_, _≤_, _^_};
 ghost use lib.Dec.{T};
 ghost use lib.ListN.{length};
-ghost use Rattle.std.specs.Of.Vec.{vec-items};
+ghost use Rattle.std.specs.Of.Vec.{vec-items, vec-len};
+ghost use Rattle.std.specs.Vec.{made};
 ghost use Rattle.algebra.specs.Hall.{corner};
 ghost use Rattle.exact.specs.Points.{cornerOf, placeOf};
 ghost use Rattle.exact.specs.Sides.{CornerNear};
 ghost use Rattle.hall.specs.Format.{sound};
 ghost use Rattle.hall.specs.Halls.{taskOf};
-ghost use Rattle.hall.specs.Outlines.{outline, within};
-ghost use Rattle.hall.specs.Shapes.{shapeOf};
+ghost use Rattle.hall.specs.Outlines.{outline, within, bounded};
+ghost use Rattle.hall.specs.Shapes.{shapeOf, drawn-within, all-within};
 use crate::halls::Hall;
 use crate::routes::Route;
 use crate::shapes::Shape;
 use exact::points::Corner;
 use exact::points::Place;
+use std::alloc::AllocError;
+use std::alloc::Global;
 
 impl<const N: usize> Shape<N> {
     pub fn new(corners: [Corner; N], count: u8) -> Shape<N>
@@ -45,7 +49,8 @@ impl<const N: usize> Shape<N> {
 
 impl Hall {
     pub fn load(&self) -> Shape<8>
-        ensures { λ r. ⌜ shapeOf r ≡ taskOf (now (self .entry)) .hall .load ⌝ }
+        ensures value { λ r. ⌜ shapeOf r ≡ taskOf (now (self .entry)) .hall .load ⌝ }
+        ensures bound { λ r. ⌜ T (drawn-within 200 r) ⌝ }
     {
         self.load
     }
@@ -56,6 +61,13 @@ impl Hall {
         ensures bound { λ r. ⌜ r ≤ 40 ⌝ }
     {
         self.things.len()
+    }
+
+    // The things, in the order of their numbers.
+    pub fn things(&self, heap: Global) -> Result<Vec<Shape<8>>, AllocError>
+        ensures { λ r. ⌜ made r (λ v. (map shapeOf (vec-items v) ≡ taskOf (now (self .entry)) .hall .things) × T (all-within 1000 (vec-items v)) × (vec-len v ≤ 40)) ⌝ }
+    {
+        self.things.values().copied().collect(heap)
     }
 
     pub fn wide(&self) -> u16
@@ -71,13 +83,15 @@ impl Hall {
     }
 
     pub fn start(&self) -> Place
-        ensures { λ r. ⌜ placeOf r ≡ taskOf (now (self .entry)) .start ⌝ }
+        ensures value { λ r. ⌜ placeOf r ≡ taskOf (now (self .entry)) .start ⌝ }
+        ensures bound { λ r. ⌜ T (bounded (2 ^ 20) r) ⌝ }
     {
         self.start
     }
 
     pub fn goal(&self) -> Place
-        ensures { λ r. ⌜ placeOf r ≡ taskOf (now (self .entry)) .goal ⌝ }
+        ensures value { λ r. ⌜ placeOf r ≡ taskOf (now (self .entry)) .goal ⌝ }
+        ensures bound { λ r. ⌜ T (bounded (2 ^ 20) r) ⌝ }
     {
         self.goal
     }
