@@ -6,18 +6,20 @@ ghost use lib.Dec.{T};
 ghost use lib.ListN.{length};
 ghost use Rattle.std.specs.Of.Vec.{vec-items, vec-len};
 ghost use Rattle.std.specs.Vec.{made};
-ghost use Rattle.algebra.specs.Hall.{corner};
+ghost use Rattle.algebra.specs.Hall.{corner, next};
 ghost use Rattle.exact.specs.Points.{cornerOf, placeOf};
-ghost use Rattle.exact.specs.Sides.{CornerNear};
+ghost use Rattle.exact.specs.Sides.{CornerNear, SideNear};
 ghost use Rattle.hall.specs.Format.{sound};
 ghost use Rattle.hall.specs.Halls.{taskOf};
 ghost use Rattle.hall.specs.Outlines.{outline, within, bounded};
 ghost use Rattle.hall.specs.Shapes.{shapeOf, drawn-within, all-within};
+use crate::bends::after;
 use crate::halls::Hall;
 use crate::routes::Route;
 use crate::shapes::Shape;
 use exact::points::Corner;
 use exact::points::Place;
+use exact::points::Side;
 use std::alloc::AllocError;
 use std::alloc::Global;
 
@@ -44,6 +46,19 @@ impl<const N: usize> Shape<N> {
         ensures bound { λ r. ⌜ CornerNear 2047 r ⌝ }
     {
         self.corners[i]
+    }
+
+    // The side from corner i to the next.
+    pub fn side(&self, i: usize) -> Side
+        requires { ⌜ i < length (shapeOf (now self)) ⌝ }
+        ensures from { λ r. ⌜ cornerOf (r .from) ≡ corner (shapeOf (now (self .entry))) i ⌝ }
+        ensures to { λ r. ⌜ cornerOf (r .to) ≡ corner (shapeOf (now (self .entry))) (next (length (shapeOf (now (self .entry)))) i) ⌝ }
+        ensures bound { λ r. ⌜ SideNear 2047 r ⌝ }
+    {
+        Side {
+            from: self.corner(i),
+            to: self.corner(after(self.len(), i)),
+        }
     }
 }
 
