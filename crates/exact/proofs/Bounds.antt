@@ -18,6 +18,8 @@ use Rattle.std.proofs.shelf.Signed.{by-ltZ, toZ-ofZ}
 use Rattle.std.proofs.shelf.Tests.{both-ways, eqb-true, eq-eqb}
 use Rattle.algebra.specs.Near.{Near}
 use Rattle.algebra.proofs.Ranges.{Known, range-pos, room, k-near, by-size}
+use Rattle.exact.specs.declared.points.Place.{Place}
+use Rattle.exact.specs.Sides.{PlaceNear}
 
 both : (s t : Bool) → T (s && t) → T s × T t
 both true true h = (tt, tt)
@@ -37,6 +39,9 @@ k-pos {n} {m} h = record { value = pos n; low = 0; high = m; same = refl; range 
 
 pub wider : {m n : ℕ} {z : ℤ} → Near m z → T (leb m n) → Near n z
 wider {m} {n} {z} h t = let l : m ≤ n = leb→le m n t in record { low = omega (arith, ints); high = omega (arith, ints) }
+
+pub place-wider : {m n i j : ℕ} {p : Place} → PlaceNear m n p → T (leb m i) → T (leb n j) → PlaceNear i j p
+place-wider {m} {n} {i} {j} {p} h s t = record { x = wider (h .x) s; y = wider (h .y) s; real = h .real; most = let l : n ≤ j = leb→le n j t in omega (arith, h .most) }
 
 -- tests that came out false
 pub not-above : (r : Bool) (z : ℤ) → Decides r (pos 0 <ℤ z) → r ≡ false → z ≤ℤ pos 0
