@@ -1,0 +1,17 @@
+pub mod Cycle
+pub mod Signs
+pub mod Mixed
+pub mod Strict
+pub mod Fan
+pub mod Open
+pub mod Middle
+pub mod Section
+pub mod GrowthMix
+pub mod GrowthSides
+pub mod Growth
+pub mod MergingCones
+pub mod MergingRound
+pub mod MergingSteps
+pub mod MergingWalk
+pub mod Merging
+pub mod Freely

@@ -1,0 +1,5 @@
+pub mod Convex
+pub mod Section
+pub mod Growth
+pub mod Merging
+pub mod Freedom
