@@ -15,3 +15,12 @@ pub mod MergingSteps
 pub mod MergingWalk
 pub mod Merging
 pub mod Freely
+pub mod ExistenceEnds
+pub mod ExistenceRun
+pub mod Existence
+pub mod GrowEnds
+pub mod GrowTurns
+pub mod GrowSteps
+pub mod GrowWalk
+pub mod GrowBounds
+pub mod GrowShape

@@ -6,11 +6,15 @@ use lib.ListN.{length, getD}
 use Rattle.algebra.specs.Hall.{Place, Shape, Hall, Sound, Inside, Within, Free}
 use Rattle.obstacle.specs.Growth.{Grown}
 
--- the obstacles of a hall, in the order of its things: each is sound, and it is where the load meets the thing
-pub record Obstacles (h : Hall) (gs : List Shape) : Type 0 where
-  pub all : length gs ≡ length (h .things)
-  pub sound : (k : ℕ) → k < length gs → Sound (getD gs k [])
-  pub grown : (k : ℕ) → k < length gs → Grown (h .load) (getD (h .things) k []) (getD gs k [])
+-- the shapes gs are what the first n things grow to, in their order: each is sound, and it is where the load meets the thing
+pub record GrownTo (load : Shape) (things gs : List Shape) (n : ℕ) : Type 0 where
+  pub count : length gs ≡ n
+  pub sound : (k : ℕ) → k < n → Sound (getD gs k [])
+  pub grown : (k : ℕ) → k < n → Grown load (getD things k []) (getD gs k [])
+
+-- the obstacles of a hall, in the order of its things
+abbrev pub Obstacles : Hall → List Shape → Type 0
+Obstacles h gs = GrownTo (h .load) (h .things) gs (length (h .things))
 
 -- inside no obstacle
 unfoldable pub Apart : List Shape → Place → Type 0

@@ -3,3 +3,5 @@ pub mod Section
 pub mod Growth
 pub mod Merging
 pub mod Freedom
+pub mod Grows
+pub mod Growing

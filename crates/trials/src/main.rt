@@ -1,5 +1,10 @@
 // The replies to the halls and ways of a list, as a table. A line of the list names a hall, or a hall and a way; after the word `cuts` it names a hall
-// whose bytes are cut short in every way, and then one byte too many.
+// whose bytes are cut short in every way, and then one byte too many; after the word
+// `obstacles` one whose obstacles are compared with another test at many places.
+mod direct;
+use direct::same_places;
+use hall::reader::read_hall;
+use obstacle::all::grow_all;
 use std::error::AnyError;
 use std::fs;
 use text::rendering::render;
@@ -54,10 +59,29 @@ fn cut_lines(rt: &LibcRuntime, name: &str) -> Result<(), AnyError> {
     Ok(())
 }
 
+// At how many places each obstacle of a hall says the same as the direct test.
+fn obstacle_line(rt: &LibcRuntime, name: &str) -> Result<(), AnyError> {
+    let bytes = bytes_of(rt, name, "hall")?;
+    let Ok(hall) = read_hall(rt.alloc(), bytes.as_slice()) else {
+        return Err("the hall is refused".into());
+    };
+    let load = hall.load();
+    let things = hall.things(rt.alloc())?;
+    let obstacles = grow_all(rt.alloc(), &hall)?;
+    let mut same = 0usize;
+    for (thing, obstacle) in things.iter().zip(obstacles.iter()) {
+        same = same.saturating_add(same_places(&load, thing, obstacle));
+    }
+    let all = things.len().saturating_mul(101 * 61);
+    println!(rt, "{name}: obstacles are right at {same} of {all} places")?;
+    Ok(())
+}
+
 fn line_of(rt: &LibcRuntime, line: &str) -> Result<(), AnyError> {
     match line.split_once(' ') {
         None => hall_line(rt, line),
         Some(("cuts", name)) => cut_lines(rt, name),
+        Some(("obstacles", name)) => obstacle_line(rt, name),
         Some((hall, way)) => way_line(rt, hall, way),
     }
 }
