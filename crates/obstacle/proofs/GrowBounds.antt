@@ -1,5 +1,5 @@
 -- The bounds of the corners that are read and of those that are met. Assumes nothing.
-use mathlib.Core.Path.{_≡_, sym, ap, subst}
+use mathlib.Core.Path.{_≡_, sym, _∙_, ap, subst}
 use mathlib.Core.List.{List}
 use Prim.Native.Nat.{ℕ, _≤_, _<_}
 use native.Mathlib.Omega.{arith}
@@ -29,14 +29,13 @@ near-read m s t i h c e =
     }
 
 -- the first n of an array
-pub within-met : (m n : ℕ) (cs : List code.Corner) → n ≤ length cs → ((k : ℕ) → k < n → CornerNear m (getD cs k zero)) → T (within m (outline n cs))
+pub within-met : (m n : ℕ) (cs : List code.Corner) → n ≤ length cs → ((k : ℕ) → k < n → CornerNear m (getD cs k zero)) → (s : Shape) → s ≡ outline n cs → T (within m s)
 unfolding within
-within-met m n cs few near =
-    let s = outline n cs in
-    let l = length-kept n cs few in
+within-met m n cs few near s is =
+    let l : length s ≡ n = ap length is ∙ length-kept n cs few in
     holds (all-from (length s) _ (λ i h.
         let k : i < n = omega arith in
-        let e = corner-kept n cs few i k in
+        let e : cornerOf (getD cs i zero) ≡ corner s i = corner-kept n cs few i k ∙ sym (ap (λ (x : Shape). corner x i) is) in
         and-from _ _
         (test-from-near m (corner s i .x) (subst (Near m) (ap (λ (d : Corner). d .x) e) (near i k .x)))
         (test-from-near m (corner s i .y) (subst (Near m) (ap (λ (d : Corner). d .y) e) (near i k .y)))))

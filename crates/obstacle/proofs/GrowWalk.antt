@@ -2,34 +2,32 @@
 use mathlib.Core.Path.{_≡_, refl, sym, _∙_, ap, ap₂, subst}
 use mathlib.Core.Bool.{cond}
 use mathlib.Core.List.{List}
-use mathlib.Core.Logic.{_⊎_, _≢_, ⊎-elim}
+use mathlib.Core.Logic.{_≢_}
 use Prim.Native.Nat.{ℕ, suc, _+_, _≤_, _<_}
 use native.Mathlib.Omega.{arith}
 use borrow.Author.Count.{below-more}
 use lib.Dec.{leb}
 use lib.ListN.{length, getD, set}
 use Rattle.std.proofs.shelf.Lists.{getD-set-same, getD-set-other}
-use Rattle.std.proofs.shelf.Tests.{cases-eq}
 use Rattle.std.proofs.shelf.Ways.{tells}
 use Rattle.algebra.specs.Hall.{Corner, Shape, corner}
 use Rattle.exact.specs.declared.points.Corner as code
 use Rattle.exact.specs.Points.{cornerOf, zero}
 use Rattle.exact.specs.Sides.{CornerNear}
 use Rattle.obstacle.specs.declared.growing.Pair.{Pair}
-use Rattle.obstacle.specs.declared.growing.Walk.{Walk}
-use Rattle.obstacle.specs.Growing.{Paired, Left, Reached, StepsOn, Met}
+use Rattle.obstacle.specs.Growing.{Paired, Reached, StepsOn, Met}
 use Rattle.obstacle.specs.Growth.{minus}
 use Rattle.obstacle.specs.Merging.{Step, of-thing, of-load, of-both, Lowest, Highest, onward, thing-corner, load-corner}
 
 -- ---- a step takes a side, of one or of both
-pub steps-more : {load thing : Shape} {a b i j i′ j′ : ℕ} → Step load thing a b i j i′ j′ → i + j < i′ + j′
+steps-more : {load thing : Shape} {a b i j i′ j′ : ℕ} → Step load thing a b i j i′ j′ → i + j < i′ + j′
 steps-more (of-thing h k) = omega arith
 steps-more (of-load h k) = omega arith
 steps-more (of-both h k e) = omega arith
 
--- where a side is left there is room for one more corner
-pub left-room : (load thing : Shape) (p : Pair) → Paired load thing p → Left load thing p → p .thing .gone + p .load .gone < length thing + length load
-left-room load thing p h l = let t = h .of-thing .gone in let u = h .of-load .gone in ⊎-elim (λ k. omega arith) (λ k. omega arith) l
+pub more-taken : (load thing : Shape) (a b : ℕ) (p q : Pair) → Reached load thing a b p → StepsOn load thing p q → p .thing .gone + p .load .gone < q .thing .gone + q .load .gone
+unfolding StepsOn
+more-taken load thing a b p q h on = steps-more (on a b h .0)
 
 -- ---- a function that is f up to n, and v after it
 then : (ℕ → ℕ) → ℕ → ℕ → ℕ → ℕ

@@ -4,3 +4,5 @@ pub mod convex;
 pub mod freedom;
 pub mod growing;
 pub mod grows;
+#[cfg(test)]
+mod tests;

@@ -3,12 +3,12 @@ use mathlib.Core.Path.{_∙_}
 use Prim.Native.Nat.{_<_}
 use lib.ListN.{length, replicate}
 use Rattle.std.proofs.shelf.Lists.{length-set, length-replicate}
+use Rattle.algebra.specs.Hall.{corner}
 use Rattle.exact.specs.Points.{zero}
 use Rattle.hall.specs.Shapes.{shapeOf}
-use Rattle.obstacle.specs.Growing.{StepsOn}
 use Rattle.obstacle.proofs.GrowBounds.{near-read}
 use Rattle.obstacle.proofs.GrowSteps.{minus-read}
-use Rattle.obstacle.proofs.GrowWalk.{walked-none, walked-on, walked-all, steps-more}
+use Rattle.obstacle.proofs.GrowWalk.{walked-none, walked-on, walked-all, more-taken}
 use Rattle.obstacle.proofs.growing.merge.Needs as need
 
 pub loop-p-holds : need.loop-p-holds
@@ -27,19 +27,17 @@ less-requires g c κs =
     }
 
 pub loop-p-less : need.loop-p-less
-unfolding StepsOn
 loop-p-less g c =
     let w = c .loop-p .inv .0 in
-    let s = steps-more (c .step-p .ensures .on (c .lowest .result) (c .highest .result) (w .reached) .0) in
+    let s = more-taken (shapeOf (c .args .load .now)) (shapeOf (c .args .thing .now)) (c .lowest .result) (c .highest .result) (c .loop-p .p) (c .step-p .result) (w .reached) (c .step-p .ensures .on) in
     let t = c .step-p .ensures .paired .of-thing .gone in
     let u = c .step-p .ensures .paired .of-load .gone in
     omega (arith, c .len-n .ensures .value, c .len-m .ensures .value)
 
 pub loop-p-again : need.loop-p-again
-unfolding StepsOn
 loop-p-again g c =
     let w = c .loop-p .inv .0 in
-    let s = steps-more (c .step-p .ensures .on (c .lowest .result) (c .highest .result) (w .reached) .0) in
+    let s = more-taken (shapeOf (c .args .load .now)) (shapeOf (c .args .thing .now)) (c .lowest .result) (c .highest .result) (c .loop-p .p) (c .step-p .result) (w .reached) (c .step-p .ensures .on) in
     let t = c .step-p .ensures .paired .of-thing .gone in
     let u = c .step-p .ensures .paired .of-load .gone in
     let load = shapeOf (c .args .load .now) in
@@ -47,7 +45,7 @@ loop-p-again g c =
     let cs = c .loop-p .corners in
     let room : c .loop-p .count < length cs = omega (arith, w .few, c .loop-p .inv .1, c .pre .room, c .len-n .ensures .value, c .len-m .ensures .value, c .len-n .ensures .bound .1, c .len-m .ensures .bound .1) in (
       walked-on load thing (c .lowest .result) (c .highest .result) (c .loop-p .p) (c .step-p .result) cs (c .loop-p .count) (c .loop-p .inv .0) (c .less .result) room
-      (minus-read (c .less .ensures .value) (c .corner .ensures .value) (c .corner-in-loop-p .ensures .value))
+      (minus-read {a = corner thing (c .loop-p .p .thing .at)} {b = corner load (c .loop-p .p .load .at)} (c .less .ensures .value) (c .corner .ensures .value) (c .corner-in-loop-p .ensures .value))
       (c .less .ensures .bound) (c .step-p .ensures .paired) (c .step-p .ensures .on),
       length-set cs (c .loop-p .count) (c .less .result) ∙ c .loop-p .inv .1,
     )
