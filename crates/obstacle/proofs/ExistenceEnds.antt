@@ -2,13 +2,12 @@
 -- the other. Assumes nothing.
 use mathlib.Core.Path.{_≡_, sym, subst}
 use mathlib.Core.Logic.{_⊎_, inl, inr, ⊎-elim}
-use Prim.Native.Nat.{ℕ, zero, suc, _-_, _<_}
+use Prim.Native.Nat.{ℕ, zero, suc, _<_}
 use native.Mathlib.Omega.{arith}
-use lib.IntN.{ℤ, pos, _-ℤ_}
+use lib.IntN.{_-ℤ_}
 use lib.ListN.{length}
-use lib.Signed.{_<ℤ_}
+use borrow.Author.Count.{below-none, below-more}
 use borrow.Author.Differences.{ints}
-use Rattle.std.proofs.shelf.Tests.{cases-eq}
 use Rattle.algebra.specs.Hall.{Corner, Shape, corner}
 use Rattle.obstacle.specs.Growth.{minus}
 use Rattle.obstacle.specs.Merging.{Up, Down, Lowest, Highest}
@@ -57,14 +56,16 @@ module _ (R : Corner → Corner → Type 0) (total : (c d : Corner) → R c d �
   itself c = ⊎-elim (λ h. h) (λ h. h) (total c c)
 
   first : (m : ℕ) → First R q (suc m)
-  first zero = record { it = 0; within = omega arith; is = λ i h. let e : 0 ≡ i = omega arith in subst (λ (k : ℕ). R (q k) (q 0)) e (itself (q 0)) }
+  first zero = record { it = 0; within = omega arith; is = λ i h. below-more (λ k. R (q k) (q 0)) 0 (below-none _) (itself (q 0)) i (omega arith) }
   first (suc m) =
       let b = first m in
-      let last = λ (a i : ℕ) (h : R (q (suc m)) (q a)) (k : (i < suc m) → R (q i) (q a)) (l : i < suc (suc m)).
-        ⊎-elim (λ e. subst (λ (x : ℕ). R (q x) (q a)) (sym e) h) (λ ne. k (omega arith)) (cases-eq i (suc m)) in
       ⊎-elim
-      (λ h. record { it = b .it; within = omega (arith, b .within); is = λ i l. last (b .it) i h (λ k. b .is i k) l })
-      (λ h. record { it = suc m; within = omega arith; is = λ i l. last (suc m) i (itself (q (suc m))) (λ k. on (q i) (q (b .it)) (q (suc m)) (b .is i k) h) l })
+      (λ h. record { it = b .it; within = omega (arith, b .within); is = λ i l. below-more (λ k. R (q k) (q (b .it))) (suc m) (b .is) h i (omega arith) })
+      (λ h. record {
+        it = suc m;
+        within = omega arith;
+        is = λ i l. below-more (λ k. R (q k) (q (suc m))) (suc m) (λ k o. on (q k) (q (b .it)) (q (suc m)) (b .is k o) h) (itself (q (suc m))) i (omega arith);
+      })
       (total (q (suc m)) (q (b .it)))
 
 -- ---- the lowest and the highest corner
@@ -79,7 +80,7 @@ lowest s m e =
 
 pub highest : (s : Shape) (m : ℕ) → suc m ≡ length s → Some (Highest s)
 highest s m e =
-    let f = first (λ c d. From d c) (λ c d. compare d c) (λ c d e h k. follow e d c k h) (corner s) m in
+    let f = first (λ c d. From d c) (λ c d. compare d c) (λ b c d h k. follow d c b k h) (corner s) m in
     record {
       it = f .it;
       is = record { within = omega (arith, f .within); most = λ i h. ⊎-elim (λ p. inl (sym p)) (λ u. inr (down-back (corner s i) (corner s (f .it)) u)) (f .is i (omega arith)) };
