@@ -2,22 +2,14 @@
 ghost use mathlib.Core.Path.{_≡_};
 ghost use Prim.Native.Nat.{_<_, _≤_, _^_};
 ghost use lib.ListN.{length};
-ghost use Rattle.algebra.specs.Hall.{at, corner, next, edge};
+ghost use Rattle.algebra.specs.Hall.{at, corner, edge};
 ghost use Rattle.exact.specs.Points.{cornerOf};
 ghost use Rattle.hall.specs.Format.{bends-left, right-of-none, same-corner, not-again, first-below, bend-at, right-at, again-at, bend-fault};
 ghost use Rattle.hall.specs.Outlines.{outlineOf, EachNear, Tells};
 use crate::refusals::Refusal;
+use crate::rounds::after;
 use exact::points::Corner;
 use exact::sides::turn;
-
-// The number after i among n, which after the last is 0.
-pub(crate) fn after(n: usize, i: usize) -> usize
-    requires { ⌜ i < n ⌝ }
-    ensures value { λ r. ⌜ r ≡ next n i ⌝ }
-    ensures bound { λ r. ⌜ r < n ⌝ }
-{
-    if i + 1 == n { 0 } else { i + 1 }
-}
 
 // The value of side i at corner j.
 fn edge_at(corners: &[Corner], i: usize, j: usize) -> i64

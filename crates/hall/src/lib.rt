@@ -6,6 +6,7 @@ pub mod laws;
 mod numbers;
 pub mod reader;
 pub mod refusals;
+pub mod rounds;
 pub mod routes;
 pub mod shapes;
 mod views;

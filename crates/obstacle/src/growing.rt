@@ -15,6 +15,7 @@ use exact::points::Corner;
 use exact::points::Side;
 use exact::sides::Direction;
 use exact::sides::cross;
+use hall::rounds::after;
 use hall::shapes::Shape;
 use std::cmp::Ordering;
 
@@ -95,15 +96,6 @@ fn highest<const N: usize>(s: &Shape<N>) -> usize
         }
     }
     best
-}
-
-// The number after i among n, which after the last is 0.
-fn after(n: usize, i: usize) -> usize
-    requires { ⌜ i < n ⌝ }
-    ensures value { λ r. ⌜ r ≡ next n i ⌝ }
-    ensures bound { λ r. ⌜ r < n ⌝ }
-{
-    if i + 1 == n { 0 } else { i + 1 }
 }
 
 impl Walk {
