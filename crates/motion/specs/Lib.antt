@@ -1,0 +1,5 @@
+pub mod Stretch
+pub mod Ends
+pub mod Ways
+pub mod Worked
+pub mod Driving

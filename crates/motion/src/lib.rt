@@ -1,0 +1,5 @@
+// Ways: a stretch against an obstacle, and the checker of ways.
+pub mod laws;
+pub mod stretches;
+pub mod ways;
+pub mod worked;
