@@ -127,15 +127,15 @@ module _ (a b u t v s : ℤ) (size : pos 0 <ℤ ((u *ℤ s) -ℤ (t *ℤ v))) (f
   above-less g h k =
       let m : pos 0 <ℤ negℤ (on a b v s) = neg>0 (on a b v s) l in
       let last : pos 0 ≤ℤ on g h (negℤ b) a =
-          factor≥0 ((u *ℤ s) -ℤ (t *ℤ v)) (on g h (negℤ b) a) size (rw scaled (search signs depth 12 fits 5000)) in
+      factor≥0 ((u *ℤ s) -ℤ (t *ℤ v)) (on g h (negℤ b) a) size (rw scaled (search signs depth 12 fits 5000)) in
       record {
         first = k .first;
         last = last;
         between =
             by-ltZ (pos 0) (on g h u t) (λ e. omega (arith, ints))
             (λ e. let p : pos 0 <ℤ on g h v s = omega (arith, ints, k .between) in
-              let q : pos 0 <ℤ on g h (negℤ b) a = factor>0 ((u *ℤ s) -ℤ (t *ℤ v)) (on g h (negℤ b) a) size (rw scaled (search signs depth 12 fits 5000)) in
-              omega (arith, ints, k .first));
+            let q : pos 0 <ℤ on g h (negℤ b) a = factor>0 ((u *ℤ s) -ℤ (t *ℤ v)) (on g h (negℤ b) a) size (rw scaled (search signs depth 12 fits 5000)) in
+            omega (arith, ints, k .first));
       }
 
 wedge-cut : (a b : ℕ → ℤ) (n : ℕ) (w : Wedge a b n) → pos 0 <ℤ a n → b n ≤ℤ pos 0 → pos 0 <ℤ on (a n) (b n) (w .u) (w .t) → on (a n) (b n) (w .v) (w .s) <ℤ pos 0 → Wedge a b (n + 1)
@@ -154,7 +154,7 @@ wedge-cut a b n w x y f l =
       first = rises-more (w .first);
       last = inr (record { j = n; within = omega arith; from = y; to = x; u-is = refl; t-is = refl });
       above = below-more _ _ (λ i h. above-less (a n) (b n) (w .u) (w .t) (w .v) (w .s) (w .size) f l (a i) (b i) (w .above i h))
-        (record { first = omega (arith, ints); last = omega (arith, ints); between = omega (arith, ints) });
+          (record { first = omega (arith, ints); last = omega (arith, ints); between = omega (arith, ints) });
     }
 
 -- a form that is not above 0 where the wedge begins falls too early
@@ -181,7 +181,7 @@ falling : (a b : ℕ → ℤ) (n : ℕ) → Wedge a b n → pos 0 <ℤ a n → b
 falling a b n w x y =
     by-ltZ (pos 0) (on (a n) (b n) (w .u) (w .t))
     (λ f. by-ltZ (on (a n) (b n) (w .v) (w .s)) (pos 0) (λ l. inl (wedge-cut a b n w x y f l))
-      (λ l. inl (wedge-kept a b n w (record { first = omega (arith, ints); last = l; between = omega (arith, ints) }))))
+    (λ l. inl (wedge-kept a b n w (record { first = omega (arith, ints); last = l; between = omega (arith, ints) }))))
     (λ f. inr (inr (too-late a b n (w .u) (w .t) (w .u>0) (w .first) x y f)))
 
 -- a form that is above 0 at both ends of the quarter is so on every ray
@@ -192,11 +192,11 @@ one-more : (a b : ℕ → ℤ) (n : ℕ) → Wedge a b n → Outcome a b (n + 1)
 one-more a b n w =
     by-ltZ (pos 0) (a n)
     (λ x. by-ltZ (pos 0) (b n)
-      (λ y. inl (wedge-kept a b n w (throughout (a n) (b n) (w .u) (w .t) (w .v) (w .s) x y (w .u>0) (w .t≥0) (w .v≥0) (w .s>0))))
-      (λ y. falling a b n w x y))
+    (λ y. inl (wedge-kept a b n w (throughout (a n) (b n) (w .u) (w .t) (w .v) (w .s) x y (w .u>0) (w .t≥0) (w .v≥0) (w .s>0))))
+    (λ y. falling a b n w x y))
     (λ x. by-ltZ (pos 0) (b n)
-      (λ y. outcome-flip b a (n + 1) (falling b a n (wedge-flip a b n w) y x))
-      (λ y. inr (inl (record { i = n; within = omega arith; from = x; to = y }))))
+    (λ y. outcome-flip b a (n + 1) (falling b a n (wedge-flip a b n w) y x))
+    (λ y. inr (inl (record { i = n; within = omega arith; from = x; to = y }))))
 
 outcome-more : (a b : ℕ → ℤ) (n : ℕ) → Outcome a b n → Outcome a b (n + 1)
 outcome-more a b n (inl w) = one-more a b n w

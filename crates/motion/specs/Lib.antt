@@ -3,3 +3,4 @@ pub mod Ends
 pub mod Ways
 pub mod Worked
 pub mod Driving
+pub mod Checking

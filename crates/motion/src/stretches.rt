@@ -34,7 +34,8 @@ fn wide_value(s: Side, p: Place) -> i128
 {
     let run = s.direction();
     let w = p.w as i128;
-    run.dx as i128 * (p.y as i128 - s.from.y as i128 * w) - run.dy as i128 * (p.x as i128 - s.from.x as i128 * w)
+    run.dx as i128 * (p.y as i128 - s.from.y as i128 * w)
+        - run.dy as i128 * (p.x as i128 - s.from.x as i128 * w)
 }
 
 // The values of all sides of a shape, in their order.

@@ -26,14 +26,13 @@ use Rattle.obstacle.specs.Growth.{Grown}
 
 pub free-exactly : Free-exactly
 unfolding Apart
-free-exactly h gs p o r =
-    (
-        λ f. record {
-          walls = f .walls;
-          apart = λ k l i. let m : k < length (h .things) = omega (arith, o .count) in f .things k m (o .grown k m .inside-meets p r i)
-        },
-        λ c. record { real = r; walls = c .walls; things = λ k l m. c .apart k (omega (arith, o .count)) (o .grown k l .meets-inside p r m) }
-    )
+free-exactly h gs p o r = (
+  λ f. record {
+    walls = f .walls;
+    apart = λ k l i. let m : k < length (h .things) = omega (arith, o .count) in f .things k m (o .grown k m .inside-meets p r i);
+  },
+  λ c. record { real = r; walls = c .walls; things = λ k l m. c .apart k (omega (arith, o .count)) (o .grown k l .meets-inside p r m) },
+)
 
 -- one thing more is grown
 pub grown-more : (load g : Shape) (things gs : List Shape) (n : ℕ) → GrownTo load things gs n → Sound g → Grown load (getD things n []) g → GrownTo load things (gs ++ g ∷ []) (n + 1)
@@ -48,7 +47,7 @@ grown-more load g things gs n o s w =
           ⊎-elim
           (λ e. subst (λ (a : Shape). Grown load (getD things k []) a) (sym (here k e)) (subst (λ (j : ℕ). Grown load (getD things j []) g) (sym e) w))
           (λ e. let m : k < n = omega arith in subst (λ (a : Shape). Grown load (getD things k []) a) (sym (there k m)) (o .grown k m))
-          (cases-eq k n)
+          (cases-eq k n);
     }
 
 -- a shape of the code, among several
@@ -69,5 +68,5 @@ pub within-wider : (m l : ℕ) (s : Shape) → m ≤ l → T (within m s) → T 
 unfolding within
 within-wider m l s h t =
     holds (all-from (length s) _ (λ i k.
-        let p = and-parts _ _ (all-at (length s) _ (true-from-holds _ t) i k) in
-        and-from _ _ (test-from-near l (corner s i .x) (near-wider m l h (near-from-test m _ (p .0)))) (test-from-near l (corner s i .y) (near-wider m l h (near-from-test m _ (p .1))))))
+    let p = and-parts _ _ (all-at (length s) _ (true-from-holds _ t) i k) in
+    and-from _ _ (test-from-near l (corner s i .x) (near-wider m l h (near-from-test m _ (p .0)))) (test-from-near l (corner s i .y) (near-wider m l h (near-from-test m _ (p .1))))))

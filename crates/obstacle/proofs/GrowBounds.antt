@@ -34,11 +34,11 @@ unfolding within
 within-met m n cs few near s is =
     let l : length s ≡ n = ap length is ∙ length-kept n cs few in
     holds (all-from (length s) _ (λ i h.
-        let k : i < n = omega arith in
-        let e : cornerOf (getD cs i zero) ≡ corner s i = corner-kept n cs few i k ∙ sym (ap (λ (x : Shape). corner x i) is) in
-        and-from _ _
-        (test-from-near m (corner s i .x) (subst (Near m) (ap (λ (d : Corner). d .x) e) (near i k .x)))
-        (test-from-near m (corner s i .y) (subst (Near m) (ap (λ (d : Corner). d .y) e) (near i k .y)))))
+    let k : i < n = omega arith in
+    let e : cornerOf (getD cs i zero) ≡ corner s i = corner-kept n cs few i k ∙ sym (ap (λ (x : Shape). corner x i) is) in
+    and-from _ _
+    (test-from-near m (corner s i .x) (subst (Near m) (ap (λ (d : Corner). d .x) e) (near i k .x)))
+    (test-from-near m (corner s i .y) (subst (Near m) (ap (λ (d : Corner). d .y) e) (near i k .y)))))
 
 pub wider-corner : {m n : ℕ} {c : code.Corner} → CornerNear m c → T (leb m n) → CornerNear n c
 wider-corner h t = record { x = wider (h .x) t; y = wider (h .y) t }

@@ -114,7 +114,7 @@ module _ (load thing : Shape) (p : Pair) where
     record { of-load = still-on load (p .load) q along (n .1); of-thing = still-on thing (p .thing) r on (n .0) },
     λ a b k. (
       subst (λ (i : ℕ). Step load thing a b (p .thing .gone) (p .load .gone) i (q .gone)) (sym (on .gone))
-      (subst (λ (j : ℕ). Step load thing a b (p .thing .gone) (p .load .gone) (suc (p .thing .gone)) j) (sym (along .gone)) (of-both (n .0) (n .1) (reread a b k Alike (n .2)))),
+          (subst (λ (j : ℕ). Step load thing a b (p .thing .gone) (p .load .gone) (suc (p .thing .gone)) j) (sym (along .gone)) (of-both (n .0) (n .1) (reread a b k Alike (n .2)))),
       record { of-thing = reaches thing (p .thing) r on a (k .of-thing); of-load = reaches load (p .load) q along b (k .of-load) },
     ),
   )

@@ -14,7 +14,11 @@ use std::alloc::AllocError;
 use std::alloc::Global;
 
 // What each of several things grows to.
-fn grow_each(heap: Global, load: &Shape<8>, things: &[Shape<8>]) -> Result<Vec<Shape<16>>, AllocError>
+fn grow_each(
+    heap: Global,
+    load: &Shape<8>,
+    things: &[Shape<8>],
+) -> Result<Vec<Shape<16>>, AllocError>
     requires load { ⌜ T (drawn-within 1000 (now load)) ⌝ }
     requires things { ⌜ T (all-within 1000 (now things)) ⌝ }
     ensures { λ r. ⌜ made r (λ v. GrownTo (shapeOf (now (load .entry))) (map shapeOf (now (things .entry))) (map shapeOf (vec-items v)) (length (now (things .entry)))) ⌝ }

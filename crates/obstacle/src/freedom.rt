@@ -3,7 +3,7 @@ ghost use mathlib.Core.Path.{_≡_};
 ghost use Prim.Native.Nat.{_*_, _<_, _≤_, _^_};
 ghost use lib.IntN.{pos};
 ghost use lib.ListN.{length};
-ghost use lib.Signed.{_≤ℤ_};
+ghost use lib.Signed.{_<ℤ_, _≤ℤ_};
 ghost use mathlib.Core.List.{map};
 ghost use Rattle.std.specs.Orderings.{Decides};
 ghost use Rattle.algebra.specs.Hall.{Inside, Within, Free, edge};
@@ -29,11 +29,20 @@ pub fn is_inside<const N: usize>(shape: &Shape<N>, p: Place) -> bool
     ensures { λ r. ⌜ Decides r (Inside (shapeOf (now (shape .entry))) (placeOf p)) ⌝ }
 {
     for i in 0..shape.len() {
-        if edge_value(shape, i, p) <= 0 {
+        if !is_left(shape, i, p) {
             return false;
         }
     }
     true
+}
+
+// Whether a place is to the left of side i.
+fn is_left<const N: usize>(shape: &Shape<N>, i: usize, p: Place) -> bool
+    requires place { ⌜ PlaceNear (2 ^ 45) (2 ^ 34) p ⌝ }
+    requires side { ⌜ i < length (shapeOf (now shape)) ⌝ }
+    ensures { λ r. ⌜ Decides r (pos 0 <ℤ edge (shapeOf (now (shape .entry))) i (placeOf p)) ⌝ }
+{
+    edge_value(shape, i, p) > 0
 }
 
 fn edge_value<const N: usize>(shape: &Shape<N>, i: usize, p: Place) -> i64
@@ -46,15 +55,13 @@ fn edge_value<const N: usize>(shape: &Shape<N>, i: usize, p: Place) -> i64
 
 // Whether z / w is from 0 to room.
 fn has_room(z: i64, w: u64, room: u16) -> bool
-    requires { ⌜ w ≤ 2 ^ 34 ⌝ }
     ensures { λ r. ⌜ Decides r ((pos 0 ≤ℤ z) × (z ≤ℤ pos (room * w))) ⌝ }
 {
-    0 <= z && z <= room as i64 * w as i64
+    0 <= z && z as i128 <= room as i128 * w as i128
 }
 
 // Whether the load's point may be there.
 pub fn is_within(hall: &Hall, p: Place) -> bool
-    requires { ⌜ PlaceNear (2 ^ 45) (2 ^ 34) p ⌝ }
     ensures { λ r. ⌜ Decides r (Within (taskOf (now (hall .entry)) .hall) (placeOf p)) ⌝ }
 {
     has_room(p.x, p.w, hall.wide()) && has_room(p.y, p.w, hall.high())

@@ -106,7 +106,10 @@ impl Walk {
         ensures bound { λ r. ⌜ r .at < n ⌝ }
         ensures gone { λ r. ⌜ r .gone ≡ self .gone + 1 ⌝ }
     {
-        Walk { at: after(n, self.at), gone: self.gone + 1 }
+        Walk {
+            at: after(n, self.at),
+            gone: self.gone + 1,
+        }
     }
 }
 
@@ -123,7 +126,10 @@ fn next_side<const M: usize, const N: usize>(load: &Shape<M>, thing: &Shape<N>, 
     } else if p.thing.gone == n {
         Ordering::Greater
     } else {
-        order(way(thing.corner(v), thing.corner(after(n, v))), way(load.corner(after(m, u)), load.corner(u)))
+        order(
+            way(thing.corner(v), thing.corner(after(n, v))),
+            way(load.corner(after(m, u)), load.corner(u)),
+        )
     }
 }
 
@@ -136,9 +142,18 @@ fn step<const M: usize, const N: usize>(load: &Shape<M>, thing: &Shape<N>, p: Pa
 {
     let (n, m) = (thing.len(), load.len());
     match next_side(load, thing, p) {
-        Ordering::Less => Pair { thing: p.thing.on(n), load: p.load },
-        Ordering::Greater => Pair { thing: p.thing, load: p.load.on(m) },
-        Ordering::Equal => Pair { thing: p.thing.on(n), load: p.load.on(m) },
+        Ordering::Less => Pair {
+            thing: p.thing.on(n),
+            load: p.load,
+        },
+        Ordering::Greater => Pair {
+            thing: p.thing,
+            load: p.load.on(m),
+        },
+        Ordering::Equal => Pair {
+            thing: p.thing.on(n),
+            load: p.load.on(m),
+        },
     }
 }
 
@@ -149,11 +164,17 @@ fn less(a: Corner, b: Corner) -> Corner
     ensures value { λ r. ⌜ cornerOf r ≡ minus (cornerOf a) (cornerOf b) ⌝ }
     ensures bound { λ r. ⌜ CornerNear 2000 r ⌝ }
 {
-    Corner { x: a.x - b.x, y: a.y - b.y }
+    Corner {
+        x: a.x - b.x,
+        y: a.y - b.y,
+    }
 }
 
 // The corners met on the walk: at each pair the thing's corner less the load's.
-fn merge<const M: usize, const N: usize, const G: usize>(load: &Shape<M>, thing: &Shape<N>) -> Outline<G>
+fn merge<const M: usize, const N: usize, const G: usize>(
+    load: &Shape<M>,
+    thing: &Shape<N>,
+) -> Outline<G>
     requires room { ⌜ M + N ≤ G ⌝ }
     requires few { ⌜ G < 256 ⌝ }
     requires near { ⌜ T (drawn-within 1000 (now load)) ⌝ ∗ ⌜ T (drawn-within 1000 (now thing)) ⌝ }
@@ -165,8 +186,14 @@ fn merge<const M: usize, const N: usize, const G: usize>(load: &Shape<M>, thing:
     let mut corners = [Corner { x: 0, y: 0 }; G];
     let mut count = 0;
     let mut p = Pair {
-        thing: Walk { at: lowest(thing), gone: 0 },
-        load: Walk { at: highest(load), gone: 0 },
+        thing: Walk {
+            at: lowest(thing),
+            gone: 0,
+        },
+        load: Walk {
+            at: highest(load),
+            gone: 0,
+        },
     };
     while p.thing.gone < n || p.load.gone < m {
         corners[count as usize] = less(thing.corner(p.thing.at), load.corner(p.load.at));
@@ -177,7 +204,10 @@ fn merge<const M: usize, const N: usize, const G: usize>(load: &Shape<M>, thing:
 }
 
 // The thing grown by the load: the load's point is inside it exactly where the load meets the thing.
-pub fn grow<const M: usize, const N: usize, const G: usize>(load: &Shape<M>, thing: &Shape<N>) -> Shape<G>
+pub fn grow<const M: usize, const N: usize, const G: usize>(
+    load: &Shape<M>,
+    thing: &Shape<N>,
+) -> Shape<G>
     requires room { ⌜ M + N ≤ G ⌝ }
     requires few { ⌜ G < 256 ⌝ }
     requires near { ⌜ T (drawn-within 1000 (now load)) ⌝ ∗ ⌜ T (drawn-within 1000 (now thing)) ⌝ }

@@ -32,7 +32,13 @@ fn none_left(a: Corner, b: Corner, shape: &Shape<8>, dx: i64, dy: i64) -> bool {
 fn has_parting_side(one: &Shape<8>, dx: i64, dy: i64, other: &Shape<8>, ox: i64, oy: i64) -> bool {
     for i in 0..one.len() {
         let side = one.side(i);
-        if none_left(doubled(side.from, dx, dy), doubled(side.to, dx, dy), other, ox, oy) {
+        if none_left(
+            doubled(side.from, dx, dy),
+            doubled(side.to, dx, dy),
+            other,
+            ox,
+            oy,
+        ) {
             return true;
         }
     }

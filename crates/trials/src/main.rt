@@ -2,6 +2,7 @@
 // whose bytes are cut short in every way, and then one byte too many; after the word
 // `obstacles` one whose obstacles are compared with another test at many places.
 mod direct;
+
 use direct::same_places;
 use hall::reader::read_hall;
 use obstacle::all::grow_all;

@@ -21,7 +21,7 @@ loop-i-again g c =
     let i = c .loop-i .i in
     let l : i < length (c .loop-i .ends) = omega (arith, c .loop-i .inv .1, c .len-i-end .ensures .bound, c .loop-i-test .taken) in (
       ends-more s p q (c .loop-i .ends) i _ l (c .loop-i .inv .0)
-      (ends-found s p q i (cornerOf (side .result .from)) (cornerOf (side .result .to)) (c .wide-value .result) (c .wide-value-in-loop-i .result) (side .ensures .from) (side .ensures .to)
-        (c .wide-value .ensures .value) (c .wide-value-in-loop-i .ensures .value) (c .wide-value .ensures .bound) (c .wide-value-in-loop-i .ensures .bound)),
+          (ends-found s p q i (cornerOf (side .result .from)) (cornerOf (side .result .to)) (c .wide-value .result) (c .wide-value-in-loop-i .result) (side .ensures .from) (side .ensures .to)
+          (c .wide-value .ensures .value) (c .wide-value-in-loop-i .ensures .value) (c .wide-value .ensures .bound) (c .wide-value-in-loop-i .ensures .bound)),
       length-set _ i _ ∙ c .loop-i .inv .1,
     )

@@ -20,7 +20,7 @@ pub grow-each-requires : need.grow-each-requires
 grow-each-requires c κs =
     record {
       load = within-wider 200 1000 (shapeOf (c .load-load .result)) (omega arith) (c .load-load .ensures .bound);
-      things = subst (λ (ss : List (Shaped 8)). T (all-within 1000 ss)) (sym (c .as-slice .ensures .value)) (c .in-Continue-things .ensures tt .1)
+      things = subst (λ (ss : List (Shaped 8)). T (all-within 1000 ss)) (sym (c .as-slice .ensures .value)) (c .in-Continue-things .ensures tt .1);
     }
 
 pub returns : need.returns
@@ -31,7 +31,7 @@ returns c =
     let l : length ts ≡ length (h .things) = sym (length-map ts shapeOf) ∙ ap length e in
     made-weaker (c .grow-each .result) _ _
     (λ v o.
-        subst (λ (n : ℕ). GrownTo (h .load) (h .things) (map shapeOf (vec-items v)) n) l
-        (subst (λ (ss : List Shape). GrownTo (h .load) ss (map shapeOf (vec-items v)) (length ts)) e
-        (subst (λ (s : Shape). GrownTo s (map shapeOf ts) (map shapeOf (vec-items v)) (length ts)) (c .load-load .ensures .value) o)))
+    subst (λ (n : ℕ). GrownTo (h .load) (h .things) (map shapeOf (vec-items v)) n) l
+    (subst (λ (ss : List Shape). GrownTo (h .load) ss (map shapeOf (vec-items v)) (length ts)) e
+    (subst (λ (s : Shape). GrownTo s (map shapeOf ts) (map shapeOf (vec-items v)) (length ts)) (c .load-load .ensures .value) o)))
     (c .grow-each .ensures)

@@ -2,9 +2,9 @@ use borrow.Author.Needs.{needs}
 use Rattle.algebra.specs.Hall.{Inside}
 use Rattle.obstacle.proofs.freedom.is_inside.Needs as need
 
-pub returns-then-edge-value-le0 : need.returns-then-edge-value-le0
+pub returns-then-not-is-left : need.returns-then-not-is-left
 unfolding Inside
-returns-then-edge-value-le0 g c = search needs
+returns-then-not-is-left g c = search needs
 
 pub returns : need.returns
 unfolding Inside

@@ -24,7 +24,7 @@ loop-i-again g c =
     let h : i < length s = omega (arith, c .len-i-end .ensures .value) in
     let e : vectorOf (c .way .result) ≡ minus (corner s i) (corner s best) = minus-read {a = corner s i} {b = corner s best} (c .way .ensures .value) (c .corner-in-loop-i .ensures .value) (c .corner .ensures .value) in
     elim (c .if-is-up .came) [
-        then-is-up w ↦ subst (Best Since s (i + 1)) (sym (w .best-is)) (best-moved Since until-self since-trans s i best h (c .loop-i .inv) (until-from-up (corner s best) (corner s i) (subst Up e (c .is-up .ensures .0 (w .if-is-up .taken)))))
+      | then-is-up w ↦ subst (Best Since s (i + 1)) (sym (w .best-is)) (best-moved Since until-self since-trans s i best h (c .loop-i .inv) (until-from-up (corner s best) (corner s i) (subst Up e (c .is-up .ensures .0 (w .if-is-up .taken)))))
       | else-is-up w ↦ subst (Best Since s (i + 1)) (sym (w .best-is)) (best-kept Since until-self since-trans s i best (c .loop-i .inv) (until-from-not-up (corner s best) (corner s i) (λ u. not-from-decides (c .is-up .result) (c .is-up .ensures) (w .if-is-up .left) (subst Up (sym e) u))))
     ]
 

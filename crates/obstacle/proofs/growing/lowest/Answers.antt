@@ -24,7 +24,7 @@ loop-i-again g c =
     let h : i < length s = omega (arith, c .len-i-end .ensures .value) in
     let e : vectorOf (c .way .result) ≡ minus (corner s best) (corner s i) = minus-read {a = corner s best} {b = corner s i} (c .way .ensures .value) (c .corner-in-loop-i .ensures .value) (c .corner .ensures .value) in
     elim (c .if-is-up .came) [
-        then-is-up w ↦ subst (Best Until s (i + 1)) (sym (w .best-is)) (best-moved Until until-self until-trans s i best h (c .loop-i .inv) (until-from-up (corner s i) (corner s best) (subst Up e (c .is-up .ensures .0 (w .if-is-up .taken)))))
+      | then-is-up w ↦ subst (Best Until s (i + 1)) (sym (w .best-is)) (best-moved Until until-self until-trans s i best h (c .loop-i .inv) (until-from-up (corner s i) (corner s best) (subst Up e (c .is-up .ensures .0 (w .if-is-up .taken)))))
       | else-is-up w ↦ subst (Best Until s (i + 1)) (sym (w .best-is)) (best-kept Until until-self until-trans s i best (c .loop-i .inv) (until-from-not-up (corner s i) (corner s best) (λ u. not-from-decides (c .is-up .result) (c .is-up .ensures) (w .if-is-up .left) (subst Up (sym e) u))))
     ]
 

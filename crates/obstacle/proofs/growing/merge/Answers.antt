@@ -45,8 +45,8 @@ loop-p-again g c =
     let cs = c .loop-p .corners in
     let room : c .loop-p .count < length cs = omega (arith, w .few, c .loop-p .inv .1, c .pre .room, c .len-n .ensures .value, c .len-m .ensures .value, c .len-n .ensures .bound .1, c .len-m .ensures .bound .1) in (
       walked-on load thing (c .lowest .result) (c .highest .result) (c .loop-p .p) (c .step-p .result) cs (c .loop-p .count) (c .loop-p .inv .0) (c .less .result) room
-      (minus-read {a = corner thing (c .loop-p .p .thing .at)} {b = corner load (c .loop-p .p .load .at)} (c .less .ensures .value) (c .corner .ensures .value) (c .corner-in-loop-p .ensures .value))
-      (c .less .ensures .bound) (c .step-p .ensures .paired) (c .step-p .ensures .on),
+          (minus-read {a = corner thing (c .loop-p .p .thing .at)} {b = corner load (c .loop-p .p .load .at)} (c .less .ensures .value) (c .corner .ensures .value) (c .corner-in-loop-p .ensures .value))
+          (c .less .ensures .bound) (c .step-p .ensures .paired) (c .step-p .ensures .on),
       length-set cs (c .loop-p .count) (c .less .result) ∙ c .loop-p .inv .1,
     )
 

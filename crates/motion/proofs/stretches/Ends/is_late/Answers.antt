@@ -25,9 +25,9 @@ returns c =
     let falls = c .falls .ensures .0 (search needs) in
     let rises = c .rises .ensures .0 (search needs) in
     let less =
-        le-decides (c .product-order .result) (e .from *ℤ f .to) (f .from *ℤ e .to)
-        (ranked-at (c .product-order .result) _ _ _ _ (c .product-order .ensures) (ap₂ _*ℤ_ (kept w128 (e .from) (first .from) tt) (kept w128 (f .to) (second .to) tt))
-          (ap₂ _*ℤ_ (kept w128 (f .from) (second .from) tt) (kept w128 (e .to) (first .to) tt))) in (
+    le-decides (c .product-order .result) (e .from *ℤ f .to) (f .from *ℤ e .to)
+    (ranked-at (c .product-order .result) _ _ _ _ (c .product-order .ensures) (ap₂ _*ℤ_ (kept w128 (e .from) (first .from) tt) (kept w128 (f .to) (second .to) tt))
+    (ap₂ _*ℤ_ (kept w128 (f .from) (second .from) tt) (kept w128 (e .to) (first .to) tt))) in (
       λ t. record { first-from = falls .0; first-to = falls .1; second-from = rises .0; second-to = rises .1; late = less .0 (sym (c .is-le .ensures) ∙ t) },
       λ h. c .is-le .ensures ∙ less .1 (h .late),
     )
