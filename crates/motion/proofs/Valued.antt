@@ -59,11 +59,11 @@ module _ (g : Shape) (p q : Place) where
     pub all : (i : ℕ) → i < length g → EndsOf g p q i (ends-at es i)
 
   -- the first ones of an array
-  pub valued : (n : ℕ) (es : List Ends) → n ≡ length g → n ≤ length es → ((i : ℕ) → i < length g → EndsOf g p q i (ends-at es i)) → Valued (take (n - 0) es)
-  valued n es e h all =
+  pub valued : {room : ℕ} (n : ℕ) (es : List Ends) → length es ≡ room → n ≤ room → n ≡ length g → ((i : ℕ) → i < length g → EndsOf g p q i (ends-at es i)) → Valued (take (n - 0) es)
+  valued {room} n es k h e all =
       let z : n - 0 ≡ n = omega arith in
       record {
-        same = ap (λ (m : ℕ). length (take m es)) z ∙ length-take-le n es h ∙ e;
+        same = ap (λ (m : ℕ). length (take m es)) z ∙ length-take-le n es (omega arith) ∙ e;
         all = λ i l. subst (EndsOf g p q i) (sym (getD-take (n - 0) es i flat (omega arith))) (all i l);
       }
 

@@ -1,5 +1,7 @@
 // Ways: a stretch against an obstacle, and the checker of ways.
 pub mod laws;
 pub mod stretches;
+#[cfg(test)]
+mod tests;
 pub mod ways;
 pub mod worked;
