@@ -4,3 +4,6 @@ pub mod Valued
 pub mod Waying
 pub mod WorkedOutBoxes
 pub mod WorkedOut
+pub mod DriveStretches
+pub mod DriveClear
+pub mod DriveNever

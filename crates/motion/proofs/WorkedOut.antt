@@ -52,15 +52,21 @@ abbrev middle : Form
 middle = record { a = pos 1; b = pos 0; c = negsuc 9 }
 
 -- and there it meets what stands below, or what stands above
-middle-met : (p : Place) → value middle p ≡ pos 0 → Free (hall 2) p → ⊥
-unfolding value plus
-middle-met p e f =
-    let v = f .walls in
-    by-ltZ (p .y) (pos 5 *ℤ pos (p .w))
-    (λ n. f .things 0 (omega arith) (meets-at p (pos 0) (negsuc 0) (four _ (omega (arith, ints)) (omega (arith, ints)) (omega (arith, ints)) (omega (arith, ints))) (omega (arith, ints)) (omega (arith, ints))
-    (four _ (omega (arith, ints)) (omega (arith, ints)) (omega (arith, ints)) (omega (arith, ints)))))
-    (λ n. f .things 1 (omega arith) (meets-at p (pos 0) (pos 1) (four _ (omega (arith, ints)) (omega (arith, ints)) (omega (arith, ints)) (omega (arith, ints))) (omega (arith, ints)) (omega (arith, ints))
-    (four _ (omega (arith, ints)) (omega (arith, ints)) (omega (arith, ints)) (omega (arith, ints)))))
+module _ (p : Place) (e : value middle p ≡ pos 0) (f : Free (hall 2) p) where
+  met-below : p .y <ℤ (pos 5 *ℤ pos (p .w)) → Meets (hall 2 .load) (getD (hall 2 .things) 0 []) p
+  unfolding value plus
+  met-below n =
+      let v = f .walls in
+      meets-at p (pos 0) (negsuc 0) (four _ (omega (arith, ints)) (omega (arith, ints)) (omega (arith, ints)) (omega (arith, ints))) (omega (arith, ints)) (omega (arith, ints)) (four _ (omega (arith, ints)) (omega (arith, ints)) (omega (arith, ints)) (omega (arith, ints)))
+
+  met-above : (pos 5 *ℤ pos (p .w)) ≤ℤ p .y → Meets (hall 2 .load) (getD (hall 2 .things) 1 []) p
+  unfolding value plus
+  met-above n =
+      let v = f .walls in
+      meets-at p (pos 0) (pos 1) (four _ (omega (arith, ints)) (omega (arith, ints)) (omega (arith, ints)) (omega (arith, ints))) (omega (arith, ints)) (omega (arith, ints)) (four _ (omega (arith, ints)) (omega (arith, ints)) (omega (arith, ints)) (omega (arith, ints)))
+
+  middle-met : ⊥
+  middle-met = by-ltZ (p .y) (pos 5 *ℤ pos (p .w)) (λ n. f .things 0 (omega arith) (met-below n)) (λ n. f .things 1 (omega arith) (met-above n))
 
 middle-crossed : (p q : Place) → value middle p ≤ℤ pos 0 → pos 0 <ℤ value middle q → Straight (hall 2) p q → ⊥
 unfolding Straight
