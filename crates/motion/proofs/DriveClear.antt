@@ -16,7 +16,7 @@ use Rattle.motion.proofs.DriveStretches.{straight-from, straight-same, to-free
 pub stretches-many : (n : ℕ) → 1 < n → stretches n ≡ n - 1
 stretches-many n h = rw (ne-eqb n 1 (λ e. omega arith)) refl
 
-pub ahead-next : (ps : List Place) (k : ℕ) → k + 1 < length ps → ahead ps k ≡ suc k
+pub ahead-next : (ps : List Place) (k : ℕ) → k + 1 < length ps → ahead (length ps) k ≡ suc k
 ahead-next ps k h = rw (ne-eqb (k + 1) (length ps) (λ e. omega arith)) (omega arith)
 
 -- ---- places in a row: those before the last, and the last
@@ -50,22 +50,23 @@ unfolding Way
 steps-way h s t p q [] ws wt e f a = straight-same h p q s t ws wt e f (a 0 (omega arith))
 steps-way h s t p q (r ∷ rs) ws wt e f a =
     let b : Straight h p q = a 0 (omega arith) in
-    let wq : 0 < q .w = to-free h p q b .real in
-    (straight-same h p q s q ws wq e (same-place .reflexive q) b,
-    steps-way h q t q r rs wq wt (same-place .reflexive q) f (λ k n. a (suc k) (omega arith)))
+    let wq : 0 < q .w = to-free h p q b .real in (
+      straight-same h p q s q ws wq e (same-place .reflexive q) b,
+      steps-way h q t q r rs wq wt (same-place .reflexive q) f (λ k n. a (suc k) (omega arith)),
+    )
 
 -- ---- the stretches of a way that is clear
 module _ (h : Hall) (s t : Place) (ps : List Place) (real : (k : ℕ) → k < length ps → 0 < place ps k .w)
     (right : (i : ℕ) → i < length ps → Right h s t ps i)
     (clear : (a : ℕ) → a < stretches (length ps) → (b : ℕ) → b < length (h .things) → Collides h ps a b → ⊥) where
-  clear-straight : (k : ℕ) → k < stretches (length ps) → k < length ps → ahead ps k < length ps → Straight h (place ps k) (place ps (ahead ps k))
+  clear-straight : (k : ℕ) → k < stretches (length ps) → k < length ps → ahead (length ps) k < length ps → Straight h (place ps k) (place ps (ahead (length ps) k))
   clear-straight k n l m =
-      straight-from h (place ps k) (place ps (ahead ps k)) (real k l) (real (ahead ps k) m) (right k l .within) (right (ahead ps k) m .within)
+      straight-from h (place ps k) (place ps (ahead (length ps) k)) (real k l) (real (ahead (length ps) k) m) (right k l .within) (right (ahead (length ps) k) m .within)
       (λ t u o b v x. clear k n b v (record { t = t; u = u; some = o; meets = x }))
 
   clear-steps : Steps h ps
   clear-steps k n =
-      let e : ahead ps k ≡ suc k = ahead-next ps k n in
+      let e : ahead (length ps) k ≡ suc k = ahead-next ps k n in
       let f : stretches (length ps) ≡ length ps - 1 = stretches-many (length ps) (omega arith) in
       subst (λ (j : ℕ). Straight h (place ps k) (place ps j)) e (clear-straight k (omega (arith, f)) (omega arith) (omega (arith, e)))
 

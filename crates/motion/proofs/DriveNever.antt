@@ -43,7 +43,7 @@ record Driven (h : Hall) (s t : Place) (ps : List Place) : Type 0 where
   some : 0 < length ps
   start : Same (place ps 0) s
   end : (k : ℕ) → k + 1 ≡ length ps → Same (place ps k) t
-  along : (k : ℕ) → k < stretches (length ps) → Straight h (place ps k) (place ps (ahead ps k))
+  along : (k : ℕ) → k < stretches (length ps) → Straight h (place ps k) (place ps (ahead (length ps) k))
 
 driven-many : (h : Hall) (s t p q : Place) (xs : List Place) → Real (p ∷ (xs ++ q ∷ [])) → Same p s → Same q t → Way h s xs t → Driven h s t (p ∷ (xs ++ q ∷ []))
 driven-many h s t p q xs real e f a =
@@ -67,7 +67,7 @@ driven-one h s t p w e f a = record { some = omega arith; start = e; end = end; 
     end zero n = f
     end (suc k) n = absurd (omega arith)
 
-    along : (k : ℕ) → k < 1 → Straight h (place (p ∷ []) k) (place (p ∷ []) (ahead (p ∷ []) k))
+    along : (k : ℕ) → k < 1 → Straight h (place (p ∷ []) k) (place (p ∷ []) (ahead 1 k))
     along zero n = straight-same h s t p p w w (same-place .symmetric p s e) (same-place .symmetric p t f) a
     along (suc k) n = absurd (omega arith)
 
@@ -76,8 +76,8 @@ driven h s t ps real d =
     ⊎-elim
     (λ e. subst (Driven h s t) (sym e) (driven-many h s t (d .first) (d .last) (d .inner) (subst Real e real) (d .start) (d .end) (d .way)))
     (λ e. subst (Driven h s t) (sym (e .0))
-        (driven-one h s t (d .first) (subst Real (e .0) real 0 (omega arith)) (d .start)
-        (subst (λ (x : Place). Same x t) (e .2) (d .end)) (subst (λ (l : List Place). Way h s l t) (e .1) (d .way))))
+    (driven-one h s t (d .first) (subst Real (e .0) real 0 (omega arith)) (d .start)
+    (subst (λ (x : Place). Same x t) (e .2) (d .end)) (subst (λ (l : List Place). Way h s l t) (e .1) (d .way))))
     (d .places)
 
 stretches>0 : (n : ℕ) → 0 < n → 0 < stretches n
@@ -86,7 +86,7 @@ stretches>0 n h = ⊎-elim (λ (e : n ≡ 1). rw e (omega arith)) (λ e. omega (
 -- ---- every place is free, so right
 module _ (h : Hall) (s t : Place) (ps : List Place) (d : Driven h s t ps) where
   place-free : (k : ℕ) → k < length ps → Free h (place ps k)
-  place-free zero n = from-free h (place ps 0) (place ps (ahead ps 0)) (d .along 0 (stretches>0 (length ps) n))
+  place-free zero n = from-free h (place ps 0) (place ps (ahead (length ps) 0)) (d .along 0 (stretches>0 (length ps) n))
   place-free (suc k) n =
       let m : k < stretches (length ps) = omega (arith, stretches-many (length ps) (omega arith)) in
       to-free h (place ps k) (place ps (suc k)) (subst (λ (j : ℕ). Straight h (place ps k) (place ps j)) (ahead-next ps k (omega arith)) (d .along k m))

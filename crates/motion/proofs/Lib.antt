@@ -7,3 +7,5 @@ pub mod WorkedOut
 pub mod DriveStretches
 pub mod DriveClear
 pub mod DriveNever
+pub mod Judging
+pub mod Judgement

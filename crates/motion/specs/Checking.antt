@@ -38,17 +38,14 @@ pub record Entered (gs : List Shape) (k : ℕ) (p q : Place) (e : Refusal) : Typ
   pub is : e ≡ Collision k j
   pub first : EntersFirst gs p q j
 
-abbrev pub StretchJudged : List Shape → ℕ → Place → Place → Result (Unit {0}) Refusal → Type 0
-StretchJudged gs k p q r = Cases r (λ _. PassesAll gs p q) (λ e. Entered gs k p q e)
-
 -- all stretches pass, or which is the first that doesn't
 unfoldable pub StretchPasses : List Shape → List Place → ℕ → Type 0
-StretchPasses gs ps a = PassesAll gs (place ps a) (place ps (ahead ps a))
+StretchPasses gs ps a = PassesAll gs (place ps a) (place ps (ahead (length ps) a))
 
 pub record Blocked (gs : List Shape) (ps : List Place) (e : Refusal) : Type 0 where
   pub k : ℕ
   pub within : k < stretches (length ps)
-  pub here : Entered gs k (place ps k) (place ps (ahead ps k)) e
+  pub here : Entered gs k (place ps k) (place ps (ahead (length ps) k)) e
   pub before : (a : ℕ) → a < k → StretchPasses gs ps a
 
 abbrev pub StretchesJudged : List Shape → List Place → Result (Unit {0}) Refusal → Type 0

@@ -38,15 +38,15 @@ pub record Right (h : Hall) (s t : Place) (ps : List Place) (k : ℕ) : Type 0 w
 abbrev pub stretches : ℕ → ℕ
 stretches n = cond (eqb n 1) 1 (n - 1)
 
-abbrev pub ahead : List Place → ℕ → ℕ
-ahead ps k = cond (eqb (k + 1) (length ps)) k (k + 1)
+abbrev pub ahead : ℕ → ℕ → ℕ
+ahead n k = cond (eqb (k + 1) n) k (k + 1)
 
 -- the load meets thing number j on stretch number k, its ends included
 pub record Collides (h : Hall) (ps : List Place) (k j : ℕ) : Type 0 where
   pub t : ℕ
   pub u : ℕ
   pub some : 0 < t + u
-  pub meets : Meets (h .load) (getD (h .things) j []) (between (place ps k) (place ps (ahead ps k)) t u)
+  pub meets : Meets (h .load) (getD (h .things) j []) (between (place ps k) (place ps (ahead (length ps) k)) t u)
 
 -- the first place that isn't right; of no places it is number 0
 pub record FirstWrong (h : Hall) (s t : Place) (ps : List Place) (k : ℕ) : Type 0 where
