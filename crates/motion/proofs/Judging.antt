@@ -38,13 +38,14 @@ stretches-within n k h =
     (λ e. let t : eqb n 1 ≡ false = ne-eqb n 1 e in let r : stretches n ≡ n - 1 = ap (λ (b : Bool). cond b 1 (n - 1)) t in omega arith)
     (cases-eq n 1)
 
--- the ends of stretch k of the code, as the definitions have them
-module _ (ps : List code.Place) (k j : ℕ) (l : k < stretches (length ps)) (e : j ≡ ahead (length ps) k) (m : j < length ps) where
-  pub from-is : placeOf (getD ps k nowhere) ≡ place (map placeOf ps) k
-  from-is = sym (place-read ps k (stretches-within (length ps) k l))
-
-  pub to-is : placeOf (getD ps j nowhere) ≡ place (map placeOf ps) (ahead (length (map placeOf ps)) k)
-  to-is = sym (place-read ps j m) ∙ ap (place (map placeOf ps)) (e ∙ ap (λ (n : ℕ). ahead n k) (sym (length-map ps placeOf)))
+-- what holds of the ends of stretch k of the code holds of its ends as the definitions have them
+pub along : (P : Place → Place → Type 0) (ps : List code.Place) (k j : ℕ) → k < stretches (length ps) → j ≡ ahead (length ps) k → j < length ps →
+    P (placeOf (getD ps k nowhere)) (placeOf (getD ps j nowhere)) → P (place (map placeOf ps) k) (place (map placeOf ps) (ahead (length (map placeOf ps)) k))
+along P ps k j l e m h =
+    let f : placeOf (getD ps k nowhere) ≡ place (map placeOf ps) k = sym (place-read ps k (stretches-within (length ps) k l)) in
+    let t : placeOf (getD ps j nowhere) ≡ place (map placeOf ps) (ahead (length (map placeOf ps)) k) =
+    sym (place-read ps j m) ∙ ap (place (map placeOf ps)) (e ∙ ap (λ (n : ℕ). ahead n k) (sym (length-map ps placeOf))) in
+    subst (P (place (map placeOf ps) k)) t (subst (λ (q : Place). P q (placeOf (getD ps j nowhere))) f h)
 
 pub ahead-within : (n k : ℕ) → k < n → ahead n k < n
 ahead-within n k h =

@@ -2,16 +2,16 @@ use borrow.Author.Count.{below-more}
 use native.Mathlib.Omega.{arith}
 use mathlib.Core.Path.{_≡_, refl, sym, ap, subst}
 use mathlib.Core.List.{map}
-use Prim.Native.Nat.{ℕ, _-_, _^_, _<_, _≤_}
-use lib.ListN.{length, getD}
+use Prim.Native.Nat.{ℕ, _-_, _^_, _<_}
+use lib.ListN.{length}
 use Rattle.std.proofs.shelf.Lists.{length-map}
 use Rattle.algebra.specs.Hall.{Place}
 use Rattle.exact.specs.Points.{placeOf}
 use Rattle.hall.specs.Shapes.{shapeOf}
 use Rattle.hall.specs.Tasks.{Bounded}
 use Rattle.motion.specs.Checking.{StretchPasses, PassesAll, EntersFirst}
-use Rattle.motion.specs.Driving.{place, ahead, stretches}
-use Rattle.motion.proofs.Judging.{nowhere, place-read, stretches-within, from-is, to-is}
+use Rattle.motion.specs.Driving.{stretches}
+use Rattle.motion.proofs.Judging.{place-read, stretches-within, along}
 use Rattle.motion.proofs.checker.check_stretches.Needs as need
 
 pub first-met-requires : need.first-met-requires
@@ -32,8 +32,6 @@ returns-in-loop-k c =
     let gs = map shapeOf (c .args .obstacles .now) in
     let k = c .loop-k .k in
     let l : k < stretches (length ps) = omega (arith, c .count-stretches-k-end .ensures) in
-    let f = from-is ps k (c .ahead-of .result) l (c .ahead-of .ensures .value) (c .ahead-of .ensures .bound) in
-    let t = to-is ps k (c .ahead-of .result) l (c .ahead-of .ensures .value) (c .ahead-of .ensures .bound) in
     let j = c .in-Some .thing in
     record {
       k = k;
@@ -41,9 +39,7 @@ returns-in-loop-k c =
       here = record {
         j = j;
         is = refl;
-        first =
-            subst (λ (q : Place). EntersFirst gs (place (map placeOf ps) k) q j) t
-            (subst (λ (q : Place). EntersFirst gs q (placeOf (getD ps (c .ahead-of .result) nowhere)) j) f (c .in-Some .ensures tt));
+        first = along (λ (p q : Place). EntersFirst gs p q j) ps k (c .ahead-of .result) l (c .ahead-of .ensures .value) (c .ahead-of .ensures .bound) (c .in-Some .ensures tt);
       };
       before = c .loop-k .inv;
     }
@@ -55,11 +51,8 @@ loop-k-again c =
     let gs = map shapeOf (c .args .obstacles .now) in
     let k = c .loop-k .k in
     let l : k < stretches (length ps) = omega (arith, c .count-stretches-k-end .ensures) in
-    let f = from-is ps k (c .ahead-of .result) l (c .ahead-of .ensures .value) (c .ahead-of .ensures .bound) in
-    let t = to-is ps k (c .ahead-of .result) l (c .ahead-of .ensures .value) (c .ahead-of .ensures .bound) in
     below-more _ _ (c .loop-k .inv)
-    (subst (λ (q : Place). PassesAll gs (place (map placeOf ps) k) q) t
-    (subst (λ (q : Place). PassesAll gs q (placeOf (getD ps (c .ahead-of .result) nowhere))) f (c .in-rest .ensures tt)))
+    (along (PassesAll gs) ps k (c .ahead-of .result) l (c .ahead-of .ensures .value) (c .ahead-of .ensures .bound) (c .in-rest .ensures tt))
 
 pub returns : need.returns
 returns c = λ a l. c .loop-k .inv a (omega (arith, c .count-stretches-k-end .ensures, ap stretches (length-map (c .args .places .now) placeOf)))
