@@ -1,4 +1,6 @@
 // The laws of integers, places and linear forms that the crates above rest on, each the contract of a function.
+#![tactic(auto)]
+
 ghost use Rattle.algebra.specs.Laws.{RingLaws, Solver, SignRules, Intervals, SideIsForm, Interpolation, Moved, Negation, SignAlong, Stretch, Crossing, Triangle, ThreeVectors, SamePlace, Convexity, SameStanding, Straightness};
 
 // The integers are a commutative ring.

@@ -1,4 +1,5 @@
 // Halls: shapes, their reader and writer, and what is refused.
+#![tactic(auto)]
 mod audit;
 mod bends;
 pub mod halls;

@@ -1,4 +1,5 @@
 // Ledges: what can hold a load up in a hall, and how it gets from one to another.
+#![tactic(auto)]
 pub mod contacts;
 pub mod descents;
 pub mod floors;

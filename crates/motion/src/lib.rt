@@ -1,4 +1,5 @@
 // Ways: a stretch against an obstacle, and the checker of ways.
+#![tactic(auto)]
 pub mod checker;
 pub mod direct;
 pub mod driving_laws;

@@ -1,4 +1,5 @@
 // Obstacles: where the load meets a thing is the inside of one shape.
+#![tactic(auto)]
 pub mod all;
 pub mod convex;
 pub mod freedom;

@@ -1,4 +1,5 @@
 // The planner.
+#![tactic(auto)]
 pub mod descending;
 pub mod marks;
 pub mod scenes;

@@ -1,4 +1,5 @@
 // What the programs print.
+#![tactic(auto)]
 pub mod answers;
 pub mod console;
 pub mod fractions;

@@ -1,6 +1,7 @@
 // The replies to the halls and ways of a list, as a table. A line of the list names a hall, or a hall and a way; after the word `cuts` it names a hall
 // whose bytes are cut short in every way, and then one byte too many; after the word
 // `obstacles` one whose obstacles are compared with another test at many places.
+#![tactic(auto)]
 mod direct;
 
 use anyhow::anyhow;
