@@ -1,5 +1,6 @@
 // bench HALL TIMES [WAY]: how long it takes to read a hall, to grow its obstacles and to check a way, in nanoseconds a run. Without arguments it does nothing.
 #![tactic(auto)]
+
 use anyhow::anyhow;
 use hall::halls::Hall;
 use hall::reader::{read_hall, read_way};

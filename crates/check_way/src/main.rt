@@ -1,5 +1,6 @@
 // check HALL WAY: reads a hall and a way from files, and prints whether the way can be driven.
 #![tactic(auto)]
+
 use anyhow::anyhow;
 use std::env;
 use text::console::{conclude, read_file};

@@ -1,5 +1,6 @@
 // Corners, places and sides, and exact questions about them, in numbers of stated size.
 #![tactic(auto)]
+
 pub mod meets;
 pub mod orders;
 pub mod points;

@@ -1,5 +1,6 @@
 // Halls: shapes, their reader and writer, and what is refused.
 #![tactic(auto)]
+
 mod audit;
 mod bends;
 pub mod halls;

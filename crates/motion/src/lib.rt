@@ -1,5 +1,6 @@
 // Ways: a stretch against an obstacle, and the checker of ways.
 #![tactic(auto)]
+
 pub mod checker;
 pub mod direct;
 pub mod driving_laws;

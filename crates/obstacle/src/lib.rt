@@ -1,5 +1,6 @@
 // Obstacles: where the load meets a thing is the inside of one shape.
 #![tactic(auto)]
+
 pub mod all;
 pub mod convex;
 pub mod freedom;

@@ -1,5 +1,6 @@
 // plan [FILE]: reads a hall from a file or from standard input, and prints how its load can be brought from start to goal.
 #![tactic(auto)]
+
 use std::env;
 use std::io::Read;
 use text::console::{conclude, read_file};

@@ -1,5 +1,6 @@
 // What the programs print.
 #![tactic(auto)]
+
 pub mod answers;
 pub mod console;
 pub mod fractions;

@@ -2,6 +2,7 @@
 // whose bytes are cut short in every way, and then one byte too many; after the word
 // `obstacles` one whose obstacles are compared with another test at many places.
 #![tactic(auto)]
+
 mod direct;
 
 use anyhow::anyhow;

@@ -4,11 +4,11 @@ use Rattle.exact.proofs.Bounds.{ranked_at, ranked_map}
 use Rattle.exact.proofs.Heights.{falls_lower, falls_level}
 use Rattle.exact.proofs.orders.height_order.Goals as goal
 
-pub overflow-mul-low : goal.overflow-mul-low
-overflow-mul-low c = by_size (search (knows, c.fall-f.ensures.near_run, c.fall-g.ensures.near_foot) depth 60 fits 99999) tt
+pub overflow_mul-low : goal.overflow_mul-low
+overflow_mul-low c = by_size (search (knows, c.fall-f.ensures.near_run, c.fall-g.ensures.near_foot) depth 60 fits 99999) tt
 
-pub overflow-mul-high : goal.overflow-mul-high
-overflow-mul-high c = by_size (search (knows, c.fall-f.ensures.near_foot, c.fall-g.ensures.near_run) depth 60 fits 99999) tt
+pub overflow_mul-high : goal.overflow_mul-high
+overflow_mul-high c = by_size (search (knows, c.fall-f.ensures.near_foot, c.fall-g.ensures.near_run) depth 60 fits 99999) tt
 
 pub returns : goal.returns
 returns c =

@@ -5,26 +5,26 @@ use Rattle.algebra.proofs.Ranges.{knows, by_size, by_value}
 use Rattle.exact.proofs.Bounds.{same_bits, equal_bits}
 use Rattle.exact.proofs.orders.same_place.Goals as goal
 
-pub overflow-mul-p : goal.overflow-mul-p
-overflow-mul-p c =
+pub overflow_mul-p : goal.overflow_mul-p
+overflow_mul-p c =
     let px : SFits w64 c.args.p.x = search rules in
     let qw : c.args.q.w ≤ 2 ^ 64 - 1 = search rules in
     by_size (search (knows, px, qw) depth 60 fits 99999) tt
 
-pub overflow-mul-q : goal.overflow-mul-q
-overflow-mul-q c =
+pub overflow_mul-q : goal.overflow_mul-q
+overflow_mul-q c =
     let qx : SFits w64 c.args.q.x = search rules in
     let pw : c.args.p.w ≤ 2 ^ 64 - 1 = search rules in
     by_size (search (knows, qx, pw) depth 60 fits 99999) tt
 
-pub overflow-mul-result : goal.overflow-mul-result
-overflow-mul-result c =
+pub overflow_mul-result : goal.overflow_mul-result
+overflow_mul-result c =
     let py : SFits w64 c.args.p.y = search rules in
     let qw : c.args.q.w ≤ 2 ^ 64 - 1 = search rules in
     by_size (search (knows, py, qw) depth 60 fits 99999) tt
 
-pub overflow-mul-result-then-p-w : goal.overflow-mul-result-then-p-w
-overflow-mul-result-then-p-w c =
+pub overflow_mul-result-then-p-w : goal.overflow_mul-result-then-p-w
+overflow_mul-result-then-p-w c =
     let qy : SFits w64 c.args.q.y = search rules in
     let pw : c.args.p.w ≤ 2 ^ 64 - 1 = search rules in
     by_size (search (knows, qy, pw) depth 60 fits 99999) tt

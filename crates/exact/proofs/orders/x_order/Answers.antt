@@ -3,11 +3,11 @@ use Rattle.algebra.proofs.Ranges.{knows, by_size, by_value}
 use Rattle.exact.proofs.Bounds.{ranked_at}
 use Rattle.exact.proofs.orders.x_order.Goals as goal
 
-pub overflow-mul-first : goal.overflow-mul-first
-overflow-mul-first c = by_size (search (knows, c.requires.first.x, c.requires.second.most) depth 60 fits 99999) tt
+pub overflow_mul-first : goal.overflow_mul-first
+overflow_mul-first c = by_size (search (knows, c.requires.first.x, c.requires.second.most) depth 60 fits 99999) tt
 
-pub overflow-mul-second : goal.overflow-mul-second
-overflow-mul-second c = by_size (search (knows, c.requires.second.x, c.requires.first.most) depth 60 fits 99999) tt
+pub overflow_mul-second : goal.overflow_mul-second
+overflow_mul-second c = by_size (search (knows, c.requires.second.x, c.requires.first.most) depth 60 fits 99999) tt
 
 pub returns : goal.returns
 returns c =

@@ -3,8 +3,8 @@ use Rattle.algebra.proofs.Ranges.{knows, by_size, by_value}
 use Rattle.exact.proofs.Bounds.{by_near}
 use Rattle.exact.proofs.sides.cross.Goals as goal
 
-pub overflow-sub-result : goal.overflow-sub-result
-overflow-sub-result c = by_size (search (knows, c.requires.u.dx, c.requires.u.dy, c.requires.v.dx, c.requires.v.dy) depth 60 fits 99999) tt
+pub overflow_sub-result : goal.overflow_sub-result
+overflow_sub-result c = by_size (search (knows, c.requires.u.dx, c.requires.u.dy, c.requires.v.dx, c.requires.v.dy) depth 60 fits 99999) tt
 
 pub returns : goal.returns
 returns c = record { value = by_value (search (knows, c.requires.u.dx, c.requires.u.dy, c.requires.v.dx, c.requires.v.dy) depth 60 fits 99999) refl; bound = by_near (search (knows, c.requires.u.dx, c.requires.u.dy, c.requires.v.dx, c.requires.v.dy) depth 60 fits 99999) tt }

@@ -5,14 +5,14 @@ use Rattle.algebra.specs.Hall.{side}
 use Rattle.exact.proofs.Bounds.{by_near}
 use Rattle.exact.proofs.sides.turn.Goals as goal
 
-pub overflow-mul-result : goal.overflow-mul-result
-overflow-mul-result c = by_size (search (knows, c.requires.a.x, c.requires.a.y, c.requires.b.x, c.requires.c.y) depth 60 fits 99999) tt
+pub overflow_mul-result : goal.overflow_mul-result
+overflow_mul-result c = by_size (search (knows, c.requires.a.x, c.requires.a.y, c.requires.b.x, c.requires.c.y) depth 60 fits 99999) tt
 
-pub overflow-mul-result-2 : goal.overflow-mul-result-2
-overflow-mul-result-2 c = by_size (search (knows, c.requires.a.x, c.requires.a.y, c.requires.b.y, c.requires.c.x) depth 60 fits 99999) tt
+pub overflow_mul-result-2 : goal.overflow_mul-result-2
+overflow_mul-result-2 c = by_size (search (knows, c.requires.a.x, c.requires.a.y, c.requires.b.y, c.requires.c.x) depth 60 fits 99999) tt
 
-pub overflow-sub-result-5 : goal.overflow-sub-result-5
-overflow-sub-result-5 c = by_size (search (knows, c.requires.a.x, c.requires.a.y, c.requires.b.x, c.requires.b.y, c.requires.c.x, c.requires.c.y) depth 60 fits 99999) tt
+pub overflow_sub-result-5 : goal.overflow_sub-result-5
+overflow_sub-result-5 c = by_size (search (knows, c.requires.a.x, c.requires.a.y, c.requires.b.x, c.requires.b.y, c.requires.c.x, c.requires.c.y) depth 60 fits 99999) tt
 
 pub returns : goal.returns
 unfolding side

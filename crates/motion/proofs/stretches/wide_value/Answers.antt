@@ -3,26 +3,26 @@ use Rattle.algebra.specs.Hall.{side}
 use Rattle.exact.proofs.Bounds.{by_near}
 use Rattle.motion.proofs.stretches.wide_value.Goals as goal
 
-pub overflow-mul-result : goal.overflow-mul-result
-overflow-mul-result c = by_size (search (knows, c.requires.corners.from.y, c.requires.place.w) depth 60 fits 99999) tt
+pub overflow_mul-result : goal.overflow_mul-result
+overflow_mul-result c = by_size (search (knows, c.requires.corners.from.y, c.requires.place.w) depth 60 fits 99999) tt
 
-pub overflow-sub-result : goal.overflow-sub-result
-overflow-sub-result c = by_size (search (knows, c.requires.corners.from.y, c.requires.place.y, c.requires.place.w) depth 60 fits 99999) tt
+pub overflow_sub-result : goal.overflow_sub-result
+overflow_sub-result c = by_size (search (knows, c.requires.corners.from.y, c.requires.place.y, c.requires.place.w) depth 60 fits 99999) tt
 
-pub overflow-mul-result-2 : goal.overflow-mul-result-2
-overflow-mul-result-2 c = by_size (search (knows, c.requires.corners.from.y, c.requires.place.y, c.requires.place.w, c.direction-run.ensures.bound.dx) depth 60 fits 99999) tt
+pub overflow_mul-result-2 : goal.overflow_mul-result-2
+overflow_mul-result-2 c = by_size (search (knows, c.requires.corners.from.y, c.requires.place.y, c.requires.place.w, c.direction-run.ensures.bound.dx) depth 60 fits 99999) tt
 
-pub overflow-mul-result-3 : goal.overflow-mul-result-3
-overflow-mul-result-3 c = by_size (search (knows, c.requires.corners.from.x, c.requires.place.w) depth 60 fits 99999) tt
+pub overflow_mul-result-3 : goal.overflow_mul-result-3
+overflow_mul-result-3 c = by_size (search (knows, c.requires.corners.from.x, c.requires.place.w) depth 60 fits 99999) tt
 
-pub overflow-sub-result-2 : goal.overflow-sub-result-2
-overflow-sub-result-2 c = by_size (search (knows, c.requires.corners.from.x, c.requires.place.x, c.requires.place.w) depth 60 fits 99999) tt
+pub overflow_sub-result-2 : goal.overflow_sub-result-2
+overflow_sub-result-2 c = by_size (search (knows, c.requires.corners.from.x, c.requires.place.x, c.requires.place.w) depth 60 fits 99999) tt
 
-pub overflow-mul-result-4 : goal.overflow-mul-result-4
-overflow-mul-result-4 c = by_size (search (knows, c.requires.corners.from.x, c.requires.place.x, c.requires.place.w, c.direction-run.ensures.bound.dy) depth 60 fits 99999) tt
+pub overflow_mul-result-4 : goal.overflow_mul-result-4
+overflow_mul-result-4 c = by_size (search (knows, c.requires.corners.from.x, c.requires.place.x, c.requires.place.w, c.direction-run.ensures.bound.dy) depth 60 fits 99999) tt
 
-pub overflow-sub-result-3 : goal.overflow-sub-result-3
-overflow-sub-result-3 c = by_size (search (knows, c.requires.corners.from.x, c.requires.corners.from.y, c.requires.place.x, c.requires.place.y, c.requires.place.w, c.direction-run.ensures.bound.dx, c.direction-run.ensures.bound.dy) depth 60 fits 99999) tt
+pub overflow_sub-result-3 : goal.overflow_sub-result-3
+overflow_sub-result-3 c = by_size (search (knows, c.requires.corners.from.x, c.requires.corners.from.y, c.requires.place.x, c.requires.place.y, c.requires.place.w, c.direction-run.ensures.bound.dx, c.direction-run.ensures.bound.dy) depth 60 fits 99999) tt
 
 pub returns : goal.returns
 unfolding side

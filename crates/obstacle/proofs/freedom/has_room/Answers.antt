@@ -5,8 +5,8 @@ use Rattle.algebra.proofs.Ranges.{knows, by_size, by_value}
 use Rattle.hall.proofs.Sounds.{le_from_le_z, le_z_from_le}
 use Rattle.obstacle.proofs.freedom.has_room.Goals as goal
 
-pub overflow-mul-result : goal.overflow-mul-result
-overflow-mul-result c = by_size (search knows depth 60 fits 99999) tt
+pub overflow_mul-result : goal.overflow_mul-result
+overflow_mul-result c = by_size (search knows depth 60 fits 99999) tt
 
 pub returns-then-z-ge0 : goal.returns-then-z-ge0
 returns-then-z-ge0 c =

@@ -3,8 +3,8 @@ use borrow.Author.Differences.{ints}
 use Rattle.algebra.proofs.Ranges.{knows, by_size, by_value}
 use Rattle.exact.proofs.meets.Ends.one_side.Goals as goal
 
-pub overflow-mul-result : goal.overflow-mul-result
-overflow-mul-result c = by_size (search (knows, c.requires.from, c.requires.to) depth 60 fits 99999) tt
+pub overflow_mul-result : goal.overflow_mul-result
+overflow_mul-result c = by_size (search (knows, c.requires.from, c.requires.to) depth 60 fits 99999) tt
 
 pub returns : goal.returns
 returns c =

@@ -5,23 +5,23 @@ use Rattle.exact.proofs.Bounds.{wider}
 use Rattle.exact.proofs.Crossings.{parts_near}
 use Rattle.exact.proofs.points.Side.divided.Goals as goal
 
-pub overflow-mul-result : goal.overflow-mul-result
-overflow-mul-result c = let t : c.args.t ≤ 33521672 = omega arith in let u : c.args.u ≤ 33521672 = omega arith in by_size (search (knows, c.requires.corners.from.x, u) depth 60 fits 99999) tt
+pub overflow_mul-result : goal.overflow_mul-result
+overflow_mul-result c = let t : c.args.t ≤ 33521672 = omega arith in let u : c.args.u ≤ 33521672 = omega arith in by_size (search (knows, c.requires.corners.from.x, u) depth 60 fits 99999) tt
 
-pub overflow-mul-result-2 : goal.overflow-mul-result-2
-overflow-mul-result-2 c = let t : c.args.t ≤ 33521672 = omega arith in let u : c.args.u ≤ 33521672 = omega arith in by_size (search (knows, c.requires.corners.to.x, t) depth 60 fits 99999) tt
+pub overflow_mul-result-2 : goal.overflow_mul-result-2
+overflow_mul-result-2 c = let t : c.args.t ≤ 33521672 = omega arith in let u : c.args.u ≤ 33521672 = omega arith in by_size (search (knows, c.requires.corners.to.x, t) depth 60 fits 99999) tt
 
-pub overflow-add-result : goal.overflow-add-result
-overflow-add-result c = let t : c.args.t ≤ 33521672 = omega arith in let u : c.args.u ≤ 33521672 = omega arith in by_size (search (knows, c.requires.corners.from.x, c.requires.corners.to.x, t, u) depth 60 fits 99999) tt
+pub overflow_add-result : goal.overflow_add-result
+overflow_add-result c = let t : c.args.t ≤ 33521672 = omega arith in let u : c.args.u ≤ 33521672 = omega arith in by_size (search (knows, c.requires.corners.from.x, c.requires.corners.to.x, t, u) depth 60 fits 99999) tt
 
-pub overflow-mul-result-3 : goal.overflow-mul-result-3
-overflow-mul-result-3 c = let t : c.args.t ≤ 33521672 = omega arith in let u : c.args.u ≤ 33521672 = omega arith in by_size (search (knows, c.requires.corners.from.y, u) depth 60 fits 99999) tt
+pub overflow_mul-result-3 : goal.overflow_mul-result-3
+overflow_mul-result-3 c = let t : c.args.t ≤ 33521672 = omega arith in let u : c.args.u ≤ 33521672 = omega arith in by_size (search (knows, c.requires.corners.from.y, u) depth 60 fits 99999) tt
 
-pub overflow-mul-result-4 : goal.overflow-mul-result-4
-overflow-mul-result-4 c = let t : c.args.t ≤ 33521672 = omega arith in let u : c.args.u ≤ 33521672 = omega arith in by_size (search (knows, c.requires.corners.to.y, t) depth 60 fits 99999) tt
+pub overflow_mul-result-4 : goal.overflow_mul-result-4
+overflow_mul-result-4 c = let t : c.args.t ≤ 33521672 = omega arith in let u : c.args.u ≤ 33521672 = omega arith in by_size (search (knows, c.requires.corners.to.y, t) depth 60 fits 99999) tt
 
-pub overflow-add-result-2 : goal.overflow-add-result-2
-overflow-add-result-2 c = let t : c.args.t ≤ 33521672 = omega arith in let u : c.args.u ≤ 33521672 = omega arith in by_size (search (knows, c.requires.corners.from.y, c.requires.corners.to.y, t, u) depth 60 fits 99999) tt
+pub overflow_add-result-2 : goal.overflow_add-result-2
+overflow_add-result-2 c = let t : c.args.t ≤ 33521672 = omega arith in let u : c.args.u ≤ 33521672 = omega arith in by_size (search (knows, c.requires.corners.from.y, c.requires.corners.to.y, t, u) depth 60 fits 99999) tt
 
 pub returns : goal.returns
 returns c =

@@ -6,29 +6,29 @@ use Rattle.exact.proofs.Bounds.{by_near}
 use Rattle.exact.proofs.Heights.{foot_is}
 use Rattle.exact.proofs.points.Side.fall.Goals as goal
 
-pub overflow-mul-foot : goal.overflow-mul-foot
-overflow-mul-foot c = by_size (search (knows, c.requires.corners.from.y, c.requires.place.most) depth 60 fits 99999) tt
+pub overflow_mul-foot : goal.overflow_mul-foot
+overflow_mul-foot c = by_size (search (knows, c.requires.corners.from.y, c.requires.place.most) depth 60 fits 99999) tt
 
-pub overflow-mul-foot-2 : goal.overflow-mul-foot-2
-overflow-mul-foot-2 c = by_size (search (knows, c.requires.corners.from.y, c.requires.place.most, c.direction-step.ensures.bound.dx) depth 60 fits 99999) tt
+pub overflow_mul-foot-2 : goal.overflow_mul-foot-2
+overflow_mul-foot-2 c = by_size (search (knows, c.requires.corners.from.y, c.requires.place.most, c.direction-step.ensures.bound.dx) depth 60 fits 99999) tt
 
-pub overflow-sub-foot : goal.overflow-sub-foot
-overflow-sub-foot c = by_size (search (knows, c.requires.corners.from.y, c.requires.place.most, c.direction-step.ensures.bound.dx) depth 60 fits 99999) tt
+pub overflow_sub-foot : goal.overflow_sub-foot
+overflow_sub-foot c = by_size (search (knows, c.requires.corners.from.y, c.requires.place.most, c.direction-step.ensures.bound.dx) depth 60 fits 99999) tt
 
-pub overflow-mul-foot-3 : goal.overflow-mul-foot-3
-overflow-mul-foot-3 c = by_size (search (knows, c.requires.corners.from.x, c.requires.place.most) depth 60 fits 99999) tt
+pub overflow_mul-foot-3 : goal.overflow_mul-foot-3
+overflow_mul-foot-3 c = by_size (search (knows, c.requires.corners.from.x, c.requires.place.most) depth 60 fits 99999) tt
 
-pub overflow-sub-foot-2 : goal.overflow-sub-foot-2
-overflow-sub-foot-2 c = by_size (search (knows, c.requires.corners.from.x, c.requires.place.x, c.requires.place.most) depth 60 fits 99999) tt
+pub overflow_sub-foot-2 : goal.overflow_sub-foot-2
+overflow_sub-foot-2 c = by_size (search (knows, c.requires.corners.from.x, c.requires.place.x, c.requires.place.most) depth 60 fits 99999) tt
 
-pub overflow-mul-foot-4 : goal.overflow-mul-foot-4
-overflow-mul-foot-4 c = by_size (search (knows, c.requires.corners.from.x, c.requires.place.x, c.requires.place.most, c.direction-step.ensures.bound.dy) depth 60 fits 99999) tt
+pub overflow_mul-foot-4 : goal.overflow_mul-foot-4
+overflow_mul-foot-4 c = by_size (search (knows, c.requires.corners.from.x, c.requires.place.x, c.requires.place.most, c.direction-step.ensures.bound.dy) depth 60 fits 99999) tt
 
-pub overflow-sub-foot-3 : goal.overflow-sub-foot-3
-overflow-sub-foot-3 c = by_size (search (knows, c.requires.corners.from.x, c.requires.corners.from.y, c.requires.place.x, c.requires.place.most, c.direction-step.ensures.bound.dx, c.direction-step.ensures.bound.dy) depth 60 fits 99999) tt
+pub overflow_sub-foot-3 : goal.overflow_sub-foot-3
+overflow_sub-foot-3 c = by_size (search (knows, c.requires.corners.from.x, c.requires.corners.from.y, c.requires.place.x, c.requires.place.most, c.direction-step.ensures.bound.dx, c.direction-step.ensures.bound.dy) depth 60 fits 99999) tt
 
-pub overflow-sub-result : goal.overflow-sub-result
-overflow-sub-result c = by_size (search (knows, c.requires.corners.from.x, c.requires.corners.from.y, c.requires.place.x, c.requires.place.most, c.direction-step.ensures.bound.dx, c.direction-step.ensures.bound.dy) depth 60 fits 99999) tt
+pub overflow_sub-result : goal.overflow_sub-result
+overflow_sub-result c = by_size (search (knows, c.requires.corners.from.x, c.requires.corners.from.y, c.requires.place.x, c.requires.place.most, c.direction-step.ensures.bound.dx, c.direction-step.ensures.bound.dy) depth 60 fits 99999) tt
 
 pub returns-then-step-lt0 : goal.returns-then-step-lt0
 returns-then-step-lt0 c =

@@ -4,20 +4,20 @@ use Rattle.algebra.proofs.Ranges.{knows, by_size, by_value}
 use Rattle.exact.proofs.Bounds.{by_near}
 use Rattle.exact.proofs.wide.Halves.times.Goals as goal
 
-pub overflow-mul-result : goal.overflow-mul-result
-overflow-mul-result c = by_size (search (knows, c.requires.first.high, c.requires.second.high) depth 60 fits 99999) tt
+pub overflow_mul-result : goal.overflow_mul-result
+overflow_mul-result c = by_size (search (knows, c.requires.first.high, c.requires.second.high) depth 60 fits 99999) tt
 
-pub overflow-mul-result-2 : goal.overflow-mul-result-2
-overflow-mul-result-2 c = by_size (search (knows, c.requires.first.high, c.requires.second.low.most, c.requires.second.low.least) depth 60 fits 99999) tt
+pub overflow_mul-result-2 : goal.overflow_mul-result-2
+overflow_mul-result-2 c = by_size (search (knows, c.requires.first.high, c.requires.second.low.most, c.requires.second.low.least) depth 60 fits 99999) tt
 
-pub overflow-mul-result-3 : goal.overflow-mul-result-3
-overflow-mul-result-3 c = by_size (search (knows, c.requires.first.low.most, c.requires.first.low.least, c.requires.second.high) depth 60 fits 99999) tt
+pub overflow_mul-result-3 : goal.overflow_mul-result-3
+overflow_mul-result-3 c = by_size (search (knows, c.requires.first.low.most, c.requires.first.low.least, c.requires.second.high) depth 60 fits 99999) tt
 
-pub overflow-add-result : goal.overflow-add-result
-overflow-add-result c = by_size (search (knows, c.requires.first.high, c.requires.first.low.most, c.requires.first.low.least, c.requires.second.high, c.requires.second.low.most, c.requires.second.low.least) depth 60 fits 99999) tt
+pub overflow_add-result : goal.overflow_add-result
+overflow_add-result c = by_size (search (knows, c.requires.first.high, c.requires.first.low.most, c.requires.first.low.least, c.requires.second.high, c.requires.second.low.most, c.requires.second.low.least) depth 60 fits 99999) tt
 
-pub overflow-mul-result-4 : goal.overflow-mul-result-4
-overflow-mul-result-4 c = by_size (search (knows, c.requires.first.low.most, c.requires.first.low.least, c.requires.second.low.most, c.requires.second.low.least) depth 60 fits 99999) tt
+pub overflow_mul-result-4 : goal.overflow_mul-result-4
+overflow_mul-result-4 c = by_size (search (knows, c.requires.first.low.most, c.requires.first.low.least, c.requires.second.low.most, c.requires.second.low.least) depth 60 fits 99999) tt
 
 pub returns : goal.returns
 returns c =

@@ -11,8 +11,8 @@ split-middle-requires c =
     let h : Near (2 ^ 50) l.result.high = low_near c.args.self l.result c.requires l.ensures.value l.ensures.low in
     by_near (search (knows, c.requires.middle, h) depth 60 fits 99999) tt
 
-pub overflow-add-result : goal.overflow-add-result
-overflow-add-result c =
+pub overflow_add-result : goal.overflow_add-result
+overflow_add-result c =
     let l = c.split-low in
     let m = c.split-middle in
     let k : Near (2 ^ 51) m.result.high = middle_near c.args.self l.result m.result c.requires l.ensures.value l.ensures.low m.ensures.value m.ensures.low in

@@ -4,14 +4,14 @@ use Rattle.algebra.proofs.Ranges.{knows, by_size, by_value}
 use Rattle.exact.proofs.Bounds.{by_near}
 use Rattle.exact.proofs.wide.Thirds.minus.Goals as goal
 
-pub overflow-sub-result : goal.overflow-sub-result
-overflow-sub-result c = by_size (search (knows, c.requires.first.high, c.requires.second.high) depth 60 fits 99999) tt
+pub overflow_sub-result : goal.overflow_sub-result
+overflow_sub-result c = by_size (search (knows, c.requires.first.high, c.requires.second.high) depth 60 fits 99999) tt
 
-pub overflow-sub-result-2 : goal.overflow-sub-result-2
-overflow-sub-result-2 c = by_size (search (knows, c.requires.first.middle, c.requires.second.middle) depth 60 fits 99999) tt
+pub overflow_sub-result-2 : goal.overflow_sub-result-2
+overflow_sub-result-2 c = by_size (search (knows, c.requires.first.middle, c.requires.second.middle) depth 60 fits 99999) tt
 
-pub overflow-sub-result-3 : goal.overflow-sub-result-3
-overflow-sub-result-3 c = by_size (search (knows, c.requires.first.low, c.requires.second.low) depth 60 fits 99999) tt
+pub overflow_sub-result-3 : goal.overflow_sub-result-3
+overflow_sub-result-3 c = by_size (search (knows, c.requires.first.low, c.requires.second.low) depth 60 fits 99999) tt
 
 pub returns : goal.returns
 returns c =
