@@ -1,5 +1,6 @@
 use Rattle.std.proofs.Common.{◌<◌, ◌*ℤ◌, refl, arith, w64, to_z, of_z}
 use Rattle.algebra.proofs.Ranges.{knows, by_size, by_value}
+use Rattle.std.proofs.lemmas.Cmp.{int_ranked}
 use Rattle.exact.proofs.Bounds.{ranked_at, ranked_map}
 use Rattle.exact.proofs.Heights.{falls_lower, falls_level}
 use Rattle.exact.proofs.orders.height_order.Goals as goal
@@ -21,7 +22,7 @@ returns c =
     let n = g.result in
     let w : 0 < here.w = omega (arith, c.requires.place.real) in
     ranked_map c.cmp.result
-    (ranked_at c.cmp.result (to_z w64 (of_z w64 (to_z w64 (of_z w64 n.foot) *ℤ to_z w64 (of_z w64 m.run)))) (to_z w64 (of_z w64 (to_z w64 (of_z w64 m.foot) *ℤ to_z w64 (of_z w64 n.run)))) (n.foot *ℤ m.run) (m.foot *ℤ n.run) c.cmp.ensures
+    (ranked_at c.cmp.result (to_z w64 (of_z w64 (to_z w64 (of_z w64 n.foot) *ℤ to_z w64 (of_z w64 m.run)))) (to_z w64 (of_z w64 (to_z w64 (of_z w64 m.foot) *ℤ to_z w64 (of_z w64 n.run)))) (n.foot *ℤ m.run) (m.foot *ℤ n.run) (int_ranked _ _ _ c.cmp.ensures)
     (by_value (search (knows, g.ensures.near_foot, f.ensures.near_run) depth 60 fits 99999) refl)
     (by_value (search (knows, f.ensures.near_foot, g.ensures.near_run) depth 60 fits 99999) refl))
     (falls_lower s t here m n f.ensures g.ensures w)

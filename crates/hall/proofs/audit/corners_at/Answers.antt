@@ -16,6 +16,6 @@ loop-k-preserved c =
       below_more _ _
           (λ k h. let ne : k ≢ i = omega arith in ap corner_of (get_or-set_other cs i k _ zero ne) ∙ c.loop-k.invariant.0 k h)
           (ap corner_of (get_or-set_same cs i _ zero l)
-          ∙ ap₂ make (to_z-of_z w64 c.i16-at.result (search rules) ∙ c.i16-at.ensures) (to_z-of_z w64 c.i16-at-in-loop-k.result (search rules) ∙ c.i16-at-in-loop-k.ensures)),
+          ∙ ap₂ make (to_z-of_z w64 c.i16_at.result (search rules) ∙ c.i16_at.ensures) (to_z-of_z w64 c.i16_at-in-loop-k.result (search rules) ∙ c.i16_at-in-loop-k.ensures)),
       length-set cs i _ ∙ c.loop-k.invariant.1,
     )

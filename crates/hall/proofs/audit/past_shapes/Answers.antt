@@ -9,7 +9,7 @@ loop-preserved c =
     let bs = c.args.bytes.now in
     let k = c.loop.counter in
     let e : byte bs c.loop.end ≡ byte bs (past k bs c.args.at) = ap (byte bs) c.loop.invariant.0 in
-    (omega (arith, past_more k bs c.args.at, e, c.byte-at.ensures), omega arith)
+    (omega (arith, past_more k bs c.args.at, e, c.byte_at.ensures), omega arith)
 
 pub returns : goal.returns
 returns c =

@@ -2,10 +2,10 @@ use Rattle.std.proofs.Common.{◌<◌, length, sym, ◌∙◌, rules}
 use Rattle.hall.proofs.Faults.{below_step, found, unless_true, unless_false}
 use Rattle.hall.proofs.bends.first_right.Goals as goal
 
-pub returns-then-not-is-covered : goal.returns-then-not-is-covered
-returns-then-not-is-covered c =
+pub returns-then-not-is_covered : goal.returns-then-not-is_covered
+returns-then-not-is_covered c =
     let h : c.loop-k.k < length c.args.corners.now = search rules in
-    found _ c.loop-k.k _ _ h c.loop-k.invariant (unless_false _ _ (sym c.is-covered.ensures ∙ c.if-not-is-covered.true))
+    found _ c.loop-k.k _ _ h c.loop-k.invariant (unless_false _ _ (sym c.is_covered.ensures ∙ c.if-not-is_covered.true))
 
 pub loop-k-preserved : goal.loop-k-preserved
-loop-k-preserved c = below_step c.loop-k.k _ c.loop-k.invariant (unless_true _ _ (sym c.is-covered.ensures ∙ c.if-not-is-covered.false))
+loop-k-preserved c = below_step c.loop-k.k _ c.loop-k.invariant (unless_true _ _ (sym c.is_covered.ensures ∙ c.if-not-is_covered.false))

@@ -8,9 +8,9 @@ use Rattle.hall.proofs.Faults.{all_step, not_all}
 use Rattle.hall.proofs.Outlines.{length_outline}
 use Rattle.hall.proofs.bends.is_covered.Goals as goal
 
-pub returns-then-edge-at-lt0 : goal.returns-then-edge-at-lt0
-returns-then-edge-at-lt0 c =
-    let e = c.edge-at.ensures in
+pub returns-then-edge_at-lt0 : goal.returns-then-edge_at-lt0
+returns-then-edge_at-lt0 c =
+    let e = c.edge_at.ensures in
     let s = outline_of c.args.corners.now in
     let f : ℕ → Bool = λ i. le_z (pos 0) (edge s i (at (corner s c.args.j))) in
     let h : f c.loop-i.i ≡ false = grind (arith, ints) in
@@ -19,7 +19,7 @@ returns-then-edge-at-lt0 c =
 
 pub loop-i-preserved : goal.loop-i-preserved
 loop-i-preserved c =
-    let e = c.edge-at.ensures in
+    let e = c.edge_at.ensures in
     let s = outline_of c.args.corners.now in
     let h : le_z (pos 0) (edge s c.loop-i.i (at (corner s c.args.j))) ≡ true = grind (arith, ints) in
     all_step c.loop-i.i _ c.loop-i.invariant h

@@ -12,4 +12,4 @@ returns c =
     let l : length c.args.corners.now ≡ length s = sym (length_outline c.args.corners.now) in
     let j : c.after-2.result ≡ next (length s) (next (length s) c.args.i) =
     c.after-2.ensures.value ∙ (ap (next (length c.args.corners.now)) c.after.ensures.value ∙ ap (λ (n : ℕ). next n (next n c.args.i)) l) in
-    ap (lt_z (pos 0)) (to_z-of_z w64 c.edge-at.result (search rules) ∙ (c.edge-at.ensures ∙ ap (λ (k : ℕ). edge s c.args.i (at (corner s k))) j))
+    ap (lt_z (pos 0)) (to_z-of_z w64 c.edge_at.result (search rules) ∙ (c.edge_at.ensures ∙ ap (λ (k : ℕ). edge s c.args.i (at (corner s k))) j))

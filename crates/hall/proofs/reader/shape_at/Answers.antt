@@ -24,8 +24,8 @@ invariant-of-result c =
     let bs = c.args.bytes.now in
     let cs = c.corners_at.result in
     let room : length cs ≡ 8 = search rules in
-    let e = made bs cs c.args.at c.byte-at.result room c.byte-at.ensures c.corners_at.ensures c.requires.drawn in
-    let f = few bs cs c.args.at c.byte-at.result room c.byte-at.ensures c.corners_at.ensures c.requires.drawn in (
+    let e = made bs cs c.args.at c.byte_at.result room c.byte_at.ensures c.corners_at.ensures c.requires.drawn in
+    let f = few bs cs c.args.at c.byte_at.result room c.byte_at.ensures c.corners_at.ensures c.requires.drawn in (
       (f, room, omega arith),
       (
         holds (ap (within 2047) e ∙ within_from_sized 2047 (shape_at bs c.args.at) c.requires.drawn.sized),
@@ -36,4 +36,4 @@ invariant-of-result c =
 pub returns : goal.returns
 returns c =
     let room : length c.corners_at.result ≡ 8 = search rules in
-    made c.args.bytes.now c.corners_at.result c.args.at c.byte-at.result room c.byte-at.ensures c.corners_at.ensures c.requires.drawn
+    made c.args.bytes.now c.corners_at.result c.args.at c.byte_at.result room c.byte_at.ensures c.corners_at.ensures c.requires.drawn

@@ -18,11 +18,11 @@ loop-k-preserved c =
     let inv = c.loop-k.invariant in
     let m = c.loop-k.things in
     let n = c.insert.new.self in
-    let v = c.shape-at.result in
+    let v = c.shape_at.result in
     let i = inserted_ok m n k v c.insert.result (search rules) c.insert.ensures.inserted in
     let e : byte bs c.loop-k.from ≡ byte bs (past k bs at) = ap (byte bs) inv.0 in
-    let s : shape_of v ≡ shape_at bs (past k bs at) = c.shape-at.ensures ∙ ap (shape_at bs) inv.0 in (
-      omega (arith, past_more k bs at, e, c.byte-at.ensures),
+    let s : shape_of v ≡ shape_at bs (past k bs at) = c.shape_at.ensures ∙ ap (shape_at bs) inv.0 in (
+      omega (arith, past_more k bs at, e, c.byte_at.ensures),
       omega arith,
       ordered m n k v i.0 i.1 inv.2 inv.3 inv.4,
       more m n k v i.0 i.1 inv.2 inv.3 inv.4,

@@ -9,6 +9,6 @@ returns c =
     let piece : ℤ → List ℕ = λ z. digits 2 (of_z w16 z) in
     let x = c.args.c.x in
     let y = c.args.c.y in
-    adds_next c.write-i16-2.result (vec_items c.args.out.now) _ _ (piece x) (piece y)
-    c.in-ok-write-i16.ensures (ap piece (to_z-of_z w64 x (search rules)))
-    c.write-i16-2.ensures (ap piece (to_z-of_z w64 y (search rules)))
+    adds_next c.write_i16-2.result (vec_items c.args.out.now) _ _ (piece x) (piece y)
+    c.in-ok-write_i16.ensures (ap piece (to_z-of_z w64 x (search rules)))
+    c.write_i16-2.ensures (ap piece (to_z-of_z w64 y (search rules)))

@@ -4,8 +4,8 @@ use Rattle.hall.specs.Format.{corner_bytes}
 use Rattle.hall.proofs.Written.{near_corner, joined_step, shape_written}
 use Rattle.hall.proofs.writer.write_shape.Goals as goal
 
-pub write-corner-requires : goal.write-corner-requires
-write-corner-requires c =
+pub write_corner-requires : goal.write_corner-requires
+write_corner-requires c =
     let s = c.args.shape.now in
     near_corner 2047 s.count c.loop-k.k s.corners (search rules) s.near c.loop-k-test.true
 
@@ -14,7 +14,7 @@ loop-k-preserved c =
     let h : c.loop-k.k < length c.args.shape.now.corners = search rules in (
       omega arith,
       joined_step corner_bytes corner_of c.args.shape.now.corners c.loop-k.k zero (vec_items c.push.new.self) _ _
-          h c.loop-k.invariant.1 c.in-ok-write-corner.ensures,
+          h c.loop-k.invariant.1 c.in-ok-write_corner.ensures,
     )
 
 pub returns : goal.returns

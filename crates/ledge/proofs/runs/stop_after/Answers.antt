@@ -2,10 +2,10 @@ use Rattle.std.proofs.Common.{◌≡◌, ℕ, ◌+◌, length, Some, None, sym, 
 use Rattle.ledge.proofs.Spotting.{is_before, not_before}
 use Rattle.ledge.proofs.Running.{Sofar, item_is, sofar_none, sofar_all, pass_none, pass_open, pass_before, pass_later, stop_here}
 use Rattle.ledge.proofs.runs.stop_after.Goals as goal
-use Rattle.ledge.proofs.runs.stop_after.Goals.{then-not-is-lt+then-is-lt, else-not-is-lt, else-not-is-lt-via-then-not-is-lt+else-is-lt, else-not-is-lt-via-else-not-is-lt}
+use Rattle.ledge.proofs.runs.stop_after.Goals.{then-not-is_lt+then-is_lt, else-not-is_lt, else-not-is_lt-via-then-not-is_lt+else-is_lt, else-not-is_lt-via-else-not-is_lt}
 
 pub loop-shadow-init : goal.loop-shadow-init
-loop-shadow-init c = sofar_none c.args.shadows.now c.args.spot c.right-end-stop.result c.right-end-stop.ensures
+loop-shadow-init c = sofar_none c.args.shadows.now c.args.spot c.right_end-stop.result c.right_end-stop.ensures
 
 pub loop-shadow-preserved-in-default : goal.loop-shadow-preserved-in-default
 loop-shadow-preserved-in-default c =
@@ -31,20 +31,20 @@ loop-shadow-preserved c =
     let f = c.in-Some-from.from in
     let is = item_is ss i c.shadow-item.result (Some x) c.loop-shadow-test.true c.shadow-item.is c.in-Some.is in
     let here = c.in-Some-from.is in
-    elim c.if-not-is-lt.branch [
-      | then-not-is-lt+then-is-lt w ↦
+    elim c.if-not-is_lt.branch [
+      | then-not-is_lt+then-is_lt w ↦
           subst (Sofar ss s (i + 1)) (sym w.stop-is)
           (stop_here ss s r i c.loop-shadow.invariant x is f here c.loop-shadow-test.true
-          (not_before c.order.result f.t f.u s.t s.u c.order.ensures (sym c.is-lt.ensures ∙ w.if-not-is-lt.true))
-          (is_before w.order-then-not-is-lt.result f.t f.u r.t r.u w.order-then-not-is-lt.ensures (sym w.is-lt-then-not-is-lt.ensures ∙ w.if-is-lt.true)))
-      | else-not-is-lt w ↦
+          (not_before c.order.result f.t f.u s.t s.u c.order.ensures (sym c.is_lt.ensures ∙ w.if-not-is_lt.true))
+          (is_before w.order-then-not-is_lt.result f.t f.u r.t r.u w.order-then-not-is_lt.ensures (sym w.is_lt-then-not-is_lt.ensures ∙ w.if-is_lt.true)))
+      | else-not-is_lt w ↦
           subst (Sofar ss s (i + 1)) (sym w.stop-is)
-          (elim w.else-not-is-lt.branch [
-            | else-not-is-lt-via-then-not-is-lt+else-is-lt v ↦
+          (elim w.else-not-is_lt.branch [
+            | else-not-is_lt-via-then-not-is_lt+else-is_lt v ↦
                 pass_later ss s r i c.loop-shadow.invariant x is f here
-                (not_before v.order-then-not-is-lt.result f.t f.u r.t r.u v.order-then-not-is-lt.ensures (sym v.is-lt-then-not-is-lt.ensures ∙ v.if-is-lt.false))
-            | else-not-is-lt-via-else-not-is-lt v ↦
-                pass_before ss s r i c.loop-shadow.invariant x is f here (is_before c.order.result f.t f.u s.t s.u c.order.ensures (sym c.is-lt.ensures ∙ v.if-not-is-lt.false))
+                (not_before v.order-then-not-is_lt.result f.t f.u r.t r.u v.order-then-not-is_lt.ensures (sym v.is_lt-then-not-is_lt.ensures ∙ v.if-is_lt.false))
+            | else-not-is_lt-via-else-not-is_lt v ↦
+                pass_before ss s r i c.loop-shadow.invariant x is f here (is_before c.order.result f.t f.u s.t s.u c.order.ensures (sym c.is_lt.ensures ∙ v.if-not-is_lt.false))
           ])
     ]
 

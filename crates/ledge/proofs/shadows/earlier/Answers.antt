@@ -9,13 +9,13 @@ pub returns-in-Some : goal.returns-in-Some
 returns-in-Some c =
     let a = c.in-Some.a in
     let b = c.args.b in
-    subst (λ (o : Option Spot). Earlier o b a) (sym c.in-Some.is) (earlier_first a b (is_before c.order.result a.t a.u b.t b.u c.order.ensures (sym c.if-is-lt.ensures)))
+    subst (λ (o : Option Spot). Earlier o b a) (sym c.in-Some.is) (earlier_first a b (is_before c.order.result a.t a.u b.t b.u c.order.ensures (sym c.if-is_lt.ensures)))
 
 pub returns-in-default : goal.returns-in-default
 returns-in-default c =
     let a = c.in-Some.a in
     let b = c.args.b in
-    subst (λ (o : Option Spot). Earlier o b b) (sym c.in-Some.is) (earlier_second a b (not_before c.order.result a.t a.u b.t b.u c.order.ensures (sym c.if-is-lt.ensures)))
+    subst (λ (o : Option Spot). Earlier o b b) (sym c.in-Some.is) (earlier_second a b (not_before c.order.result a.t a.u b.t b.u c.order.ensures (sym c.if-is_lt.ensures)))
 
 pub returns-in-default·2 : goal.returns-in-default·2
 returns-in-default·2 c =

@@ -9,13 +9,13 @@ pub returns-in-Some : goal.returns-in-Some
 returns-in-Some c =
     let a = c.in-Some.a in
     let b = c.args.b in
-    subst (λ (o : Option Spot). Later o b a) (sym c.in-Some.is) (later_first a b (is_after c.order.result a.t a.u b.t b.u c.order.ensures (sym c.if-is-gt.ensures)))
+    subst (λ (o : Option Spot). Later o b a) (sym c.in-Some.is) (later_first a b (is_after c.order.result a.t a.u b.t b.u c.order.ensures (sym c.if-is_gt.ensures)))
 
 pub returns-in-default : goal.returns-in-default
 returns-in-default c =
     let a = c.in-Some.a in
     let b = c.args.b in
-    subst (λ (o : Option Spot). Later o b b) (sym c.in-Some.is) (later_second a b (not_after c.order.result a.t a.u b.t b.u c.order.ensures (sym c.if-is-gt.ensures)))
+    subst (λ (o : Option Spot). Later o b b) (sym c.in-Some.is) (later_second a b (not_after c.order.result a.t a.u b.t b.u c.order.ensures (sym c.if-is_gt.ensures)))
 
 pub returns-in-default·2 : goal.returns-in-default·2
 returns-in-default·2 c =

@@ -4,14 +4,14 @@ use Rattle.std.proofs.lemmas.Bool.Decides.{not_from_Decides}
 use Rattle.exact.specs.Points.{place_of}
 use Rattle.motion.proofs.checker.check_places.Goals as goal
 
-pub returns-then-is-empty : goal.returns-then-is-empty
-returns-then-is-empty c =
+pub returns-then-is_empty : goal.returns-then-is_empty
+returns-then-is_empty c =
     let ps = c.args.places.now in
     let z : length ps ≡ 0 = search rules in
     record { k = 0; is = refl; first = record { here = inl (length-map ps place_of ∙ z); before = λ j l. absurd (omega arith) } }
 
-pub returns-then-not-is-right : goal.returns-then-not-is-right
-returns-then-not-is-right c =
+pub returns-then-not-is_right : goal.returns-then-not-is_right
+returns-then-not-is_right c =
     let ps = c.args.places.now in
     let k = c.loop-k.k in
     let h : k < length ps = search rules in
@@ -19,7 +19,7 @@ returns-then-not-is-right c =
       k = k;
       is = refl;
       first = record {
-        here = inr (omega (arith, length-map ps place_of), not_from_Decides c.is-right.result c.is-right.ensures c.if-not-is-right.true);
+        here = inr (omega (arith, length-map ps place_of), not_from_Decides c.is_right.result c.is_right.ensures c.if-not-is_right.true);
         before = λ j l. (omega (arith, length-map ps place_of), c.loop-k.invariant j l);
       };
     }

@@ -9,13 +9,13 @@ use Rattle.motion.specs.Driving.{stretches}
 use Rattle.motion.proofs.Judging.{place_read, stretches_within, along}
 use Rattle.motion.proofs.checker.check_stretches.Goals as goal
 
-pub first-met-requires : goal.first-met-requires
-first-met-requires c =
+pub first_met-requires : goal.first_met-requires
+first_met-requires c =
     let ps = c.args.places.now in
     let k = c.loop-k.k in
-    let j = c.ahead-of.result in
-    let l : k < length ps = stretches_within (length ps) k (omega (arith, c.count-stretches-k-end.ensures)) in
-    let m : j < length ps = c.ahead-of.ensures.bound in
+    let j = c.ahead_of.result in
+    let l : k < length ps = stretches_within (length ps) k (omega (arith, c.count_stretches-k-end.ensures)) in
+    let m : j < length ps = c.ahead_of.ensures.bound in
     record {
       from = subst (Bounded (2 ^ 60 - 1)) (place_read ps k l) (c.requires k l);
       to = subst (Bounded (2 ^ 60 - 1)) (place_read ps j m) (c.requires j m);
@@ -26,7 +26,7 @@ returns-in-loop-k c =
     let ps = c.args.places.now in
     let gs = map shape_of c.args.obstacles.now in
     let k = c.loop-k.k in
-    let l : k < stretches (length ps) = omega (arith, c.count-stretches-k-end.ensures) in
+    let l : k < stretches (length ps) = omega (arith, c.count_stretches-k-end.ensures) in
     let j = c.in-Some.thing in
     record {
       k = k;
@@ -34,7 +34,7 @@ returns-in-loop-k c =
       here = record {
         j = j;
         is = refl;
-        first = along (λ (p q : Place). EntersFirst gs p q j) ps k c.ahead-of.result l c.ahead-of.ensures.value c.ahead-of.ensures.bound c.in-Some.ensures;
+        first = along (λ (p q : Place). EntersFirst gs p q j) ps k c.ahead_of.result l c.ahead_of.ensures.value c.ahead_of.ensures.bound c.in-Some.ensures;
       };
       before = c.loop-k.invariant;
     }
@@ -45,9 +45,9 @@ loop-k-preserved c =
     let ps = c.args.places.now in
     let gs = map shape_of c.args.obstacles.now in
     let k = c.loop-k.k in
-    let l : k < stretches (length ps) = omega (arith, c.count-stretches-k-end.ensures) in
+    let l : k < stretches (length ps) = omega (arith, c.count_stretches-k-end.ensures) in
     below_more _ _ c.loop-k.invariant
-    (along (PassesAll gs) ps k c.ahead-of.result l c.ahead-of.ensures.value c.ahead-of.ensures.bound c.in-default.ensures)
+    (along (PassesAll gs) ps k c.ahead_of.result l c.ahead_of.ensures.value c.ahead_of.ensures.bound c.in-default.ensures)
 
 pub returns : goal.returns
-returns c = λ a l. c.loop-k.invariant a (omega (arith, c.count-stretches-k-end.ensures, ap stretches (length-map c.args.places.now place_of)))
+returns c = λ a l. c.loop-k.invariant a (omega (arith, c.count_stretches-k-end.ensures, ap stretches (length-map c.args.places.now place_of)))

@@ -10,13 +10,13 @@ use Rattle.obstacle.proofs.Freely.{shape_item}
 use Rattle.motion.proofs.Judging.{enters}
 use Rattle.motion.proofs.checker.first_met.Goals as goal
 
-pub returns-then-not-is-clear : goal.returns-then-not-is-clear
-returns-then-not-is-clear c =
+pub returns-then-not-is_clear : goal.returns-then-not-is_clear
+returns-then-not-is_clear c =
     let os = c.args.obstacles.now in
     let j = c.loop-thing.thing in
     let h : j < length os = search rules in
     let e = shape_item os j c.index-obstacles-thing.result h c.index-obstacles-thing.is in
-    let n = not_from_Decides c.is-clear.result c.is-clear.ensures c.if-not-is-clear.true in
+    let n = not_from_Decides c.is_clear.result c.is_clear.ensures c.if-not-is_clear.true in
     let i = enters (shape_of c.index-obstacles-thing.result) (place_of c.args.p) (place_of c.args.q) c.requires.from.real c.requires.to.real n in
     record {
       thing = omega (arith, length-map os shape_of);
@@ -30,7 +30,7 @@ loop-thing-preserved c =
     let j = c.loop-thing.thing in
     let h : j < length os = search rules in
     let e = shape_item os j c.index-obstacles-thing.result h c.index-obstacles-thing.is in
-    below_more _ _ c.loop-thing.invariant (subst (λ (s : Shape). Passes s (place_of c.args.p) (place_of c.args.q)) (sym e) (c.is-clear.ensures.0 c.if-not-is-clear.false))
+    below_more _ _ c.loop-thing.invariant (subst (λ (s : Shape). Passes s (place_of c.args.p) (place_of c.args.q)) (sym e) (c.is_clear.ensures.0 c.if-not-is_clear.false))
 
 pub returns : goal.returns
 unfolding PassesAll

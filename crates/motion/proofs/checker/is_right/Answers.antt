@@ -26,13 +26,13 @@ module _ (h : Hall) (s t : Place) (ps : List code.Place) (k : ℕ) (l : k < leng
       let r = place_read ps k l in
       (subst (Within h) r x.within, λ z. subst (λ (p : Place). Same p s) r (x.first z), λ z. subst (λ (p : Place). Same p t) r (x.last (omega (arith, length-map ps place_of))))
 
-pub returns-then-not-is-within : goal.returns-then-not-is-within
-returns-then-not-is-within c =
-    (λ e. absurd (false≢true e), λ r. absurd (not_from_Decides c.is-within.result c.is-within.ensures c.if-not-is-within.true (from-right _ _ _ c.args.places.now c.args.k c.requires r).0))
+pub returns-then-not-is_within : goal.returns-then-not-is_within
+returns-then-not-is_within c =
+    (λ e. absurd (false≢true e), λ r. absurd (not_from_Decides c.is_within.result c.is_within.ensures c.if-not-is_within.true (from-right _ _ _ c.args.places.now c.args.k c.requires r).0))
 
 pub returns-then-starts : goal.returns-then-starts
 returns-then-starts c = (
-  λ e. right-from _ _ _ c.args.places.now c.args.k c.requires (c.is-within.ensures.0 c.if-not-is-within.false) (c.starts.ensures.0 c.if-starts.true) (c.ends.ensures.0 e),
+  λ e. right-from _ _ _ c.args.places.now c.args.k c.requires (c.is_within.ensures.0 c.if-not-is_within.false) (c.starts.ensures.0 c.if-starts.true) (c.ends.ensures.0 e),
   λ r. c.ends.ensures.1 (from-right _ _ _ c.args.places.now c.args.k c.requires r).2,
 )
 

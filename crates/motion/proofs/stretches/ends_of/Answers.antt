@@ -17,7 +17,7 @@ loop-i-preserved g c =
     let i = c.loop-i.i in
     let l : i < length c.loop-i.ends = omega (arith, c.loop-i.invariant.1, c.len-i-end.ensures.bound, c.loop-i-test.true) in (
       ends_more s p q c.loop-i.ends i _ l c.loop-i.invariant.0
-          (ends_found s p q i (corner_of side.result.from) (corner_of side.result.to) c.wide-value.result c.wide-value-in-loop-i.result side.ensures.from side.ensures.to
-          c.wide-value.ensures.value c.wide-value-in-loop-i.ensures.value c.wide-value.ensures.bound c.wide-value-in-loop-i.ensures.bound),
+          (ends_found s p q i (corner_of side.result.from) (corner_of side.result.to) c.wide_value.result c.wide_value-in-loop-i.result side.ensures.from side.ensures.to
+          c.wide_value.ensures.value c.wide_value-in-loop-i.ensures.value c.wide_value.ensures.bound c.wide_value-in-loop-i.ensures.bound),
       length-set _ i _ ∙ c.loop-i.invariant.1,
     )

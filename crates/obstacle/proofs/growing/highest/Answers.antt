@@ -8,7 +8,7 @@ use Rattle.obstacle.specs.Merging.{Up}
 use Rattle.obstacle.proofs.GrowEnds.{Best, Since, until_self, since_trans, until_from_up, until_from_not_up, down_from_until, best_first, best_moved, best_kept}
 use Rattle.obstacle.proofs.GrowSteps.{minus_read}
 use Rattle.obstacle.proofs.growing.highest.Goals as goal
-use Rattle.obstacle.proofs.growing.highest.Goals.{then-is-up, else-is-up}
+use Rattle.obstacle.proofs.growing.highest.Goals.{then-is_up, else-is_up}
 
 pub loop-i-init : goal.loop-i-init
 loop-i-init g c = best_first Since until_self since_trans (shape_of c.args.s.now) (omega (arith, c.len-i-end.ensures.bound.0))
@@ -20,9 +20,9 @@ loop-i-preserved g c =
     let best : ℕ = c.loop-i.best in
     let h : i < length s = omega (arith, c.len-i-end.ensures.value) in
     let e : vector_of c.way.result ≡ minus (corner s i) (corner s best) = minus_read {a = corner s i} {b = corner s best} c.way.ensures.value c.corner-in-loop-i.ensures.value c.corner.ensures.value in
-    elim c.if-is-up.branch [
-      | then-is-up w ↦ subst (Best Since s (i + 1)) (sym w.best-is) (best_moved Since until_self since_trans s i best h c.loop-i.invariant (until_from_up (corner s best) (corner s i) (subst Up e (c.is-up.ensures.0 w.if-is-up.true))))
-      | else-is-up w ↦ subst (Best Since s (i + 1)) (sym w.best-is) (best_kept Since until_self since_trans s i best c.loop-i.invariant (until_from_not_up (corner s best) (corner s i) (λ u. not_from_Decides c.is-up.result c.is-up.ensures w.if-is-up.false (subst Up (sym e) u))))
+    elim c.if-is_up.branch [
+      | then-is_up w ↦ subst (Best Since s (i + 1)) (sym w.best-is) (best_moved Since until_self since_trans s i best h c.loop-i.invariant (until_from_up (corner s best) (corner s i) (subst Up e (c.is_up.ensures.0 w.if-is_up.true))))
+      | else-is_up w ↦ subst (Best Since s (i + 1)) (sym w.best-is) (best_kept Since until_self since_trans s i best c.loop-i.invariant (until_from_not_up (corner s best) (corner s i) (λ u. not_from_Decides c.is_up.result c.is_up.ensures w.if-is_up.false (subst Up (sym e) u))))
     ]
 
 pub returns : goal.returns

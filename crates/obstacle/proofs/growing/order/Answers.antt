@@ -11,6 +11,6 @@ pub returns-then-first-second : goal.returns-then-first-second
 returns-then-first-second c =
     let d = vector_of c.args.d in
     let e = vector_of c.args.e in
-    let s : SameHalf d e = same_half c.is-up-first.result c.is-up-second.result d e c.is-up-first.ensures c.is-up-second.ensures c.requires.first.1 c.requires.second.1 c.if-first-second.true in
+    let s : SameHalf d e = same_half c.is_up-first.result c.is_up-second.result d e c.is_up-first.ensures c.is_up-second.ensures c.requires.first.1 c.requires.second.1 c.if-first-second.true in
     ranked_in_half c.cmp.result d e s
     (ranked_at c.cmp.result (pos 0) (to_z w64 (of_z w64 c.cross.result)) (pos 0) (turn d e) c.cmp.ensures refl (to_z-of_z w64 c.cross.result (search rules) ∙ c.cross.ensures.value))

@@ -11,7 +11,7 @@ same : (c : goal.After-from-2) → to_z w64 (of_z w64 c.args.x) ≡ c.args.x
 same c = to_z-of_z w64 c.args.x c.ranges.x
 
 divisor : (c : goal.After-from-2) → Greatest (nat_abs c.args.x) c.args.w c.gcd-shared.result
-divisor c = subst (λ (a : ℕ). Greatest a c.args.w c.gcd-shared.result) (c.unsigned-abs.ensures.value ∙ ap nat_abs (same c)) c.gcd-shared.ensures
+divisor c = subst (λ (a : ℕ). Greatest a c.args.w c.gcd-shared.result) (c.unsigned_abs.ensures.value ∙ ap nat_abs (same c)) c.gcd-shared.ensures
 
 some : (c : goal.After-from-2) → 0 < c.args.w
 some c = omega arith

@@ -11,9 +11,9 @@ returns c =
     let h = c.args.self.now in
     let t = task_of h in
     let n : c.len.result ≡ length t.hall.things = omega (arith, length-map (values h.things) shape_of, h.lawful.0, h.things.keys.ok.0) in
-    task_written t c.len.result {b2 = vec_items c.write-u16-2.new.out} {b3 = vec_items c.write-shape.new.out}
-    {b4 = vec_items c.push.new.self} {b5 = vec_items c.write-shapes.new.out} {b6 = vec_items c.write-place.new.out}
-    {b7 = vec_items c.write-place-2.new.out} n c.new-bytes.ensures.items
-    c.in-ok-write-u16.ensures c.in-ok-write-u16-2.ensures c.in-ok-write-shape.ensures
-    c.in-ok-push.ensures.items c.in-ok-write-shapes.ensures
-    c.in-ok-write-place.ensures c.in-ok-write-place-2.ensures
+    task_written t c.len.result {b2 = vec_items c.write_u16-2.new.out} {b3 = vec_items c.write_shape.new.out}
+    {b4 = vec_items c.push.new.self} {b5 = vec_items c.write_shapes.new.out} {b6 = vec_items c.write_place.new.out}
+    {b7 = vec_items c.write_place-2.new.out} n c.new-bytes.ensures.items
+    c.in-ok-write_u16.ensures c.in-ok-write_u16-2.ensures c.in-ok-write_shape.ensures
+    c.in-ok-push.ensures.items c.in-ok-write_shapes.ensures
+    c.in-ok-write_place.ensures c.in-ok-write_place-2.ensures

@@ -5,8 +5,8 @@ use Rattle.exact.proofs.Bounds.{by_near, kept, ranked_at}
 use Rattle.motion.proofs.Valued.{le_decides}
 use Rattle.motion.proofs.stretches.Ends.is_late.Goals as goal
 
-pub product-order-requires : goal.product-order-requires
-product-order-requires c =
+pub product_order-requires : goal.product_order-requires
+product_order-requires c =
     record {
       a = by_near (search (knows, c.requires.first.from) depth 60 fits 99999) tt;
       b = by_near (search (knows, c.requires.second.to) depth 60 fits 99999) tt;
@@ -23,9 +23,9 @@ returns c =
     let falls = c.falls.ensures.0 (search rules) in
     let rises = c.rises.ensures.0 (search rules) in
     let less =
-    le_decides c.product-order.result (e.from *ℤ f.to) (f.from *ℤ e.to)
-    (ranked_at c.product-order.result _ _ _ _ c.product-order.ensures (ap₂ ◌*ℤ◌ (kept w128 e.from first.from tt) (kept w128 f.to second.to tt))
+    le_decides c.product_order.result (e.from *ℤ f.to) (f.from *ℤ e.to)
+    (ranked_at c.product_order.result _ _ _ _ c.product_order.ensures (ap₂ ◌*ℤ◌ (kept w128 e.from first.from tt) (kept w128 f.to second.to tt))
     (ap₂ ◌*ℤ◌ (kept w128 f.from second.from tt) (kept w128 e.to first.to tt))) in (
-      λ t. record { first_from = falls.0; first_to = falls.1; second_from = rises.0; second_to = rises.1; late = less.0 (sym c.is-le.ensures ∙ t) },
-      λ h. c.is-le.ensures ∙ less.1 h.late,
+      λ t. record { first_from = falls.0; first_to = falls.1; second_from = rises.0; second_to = rises.1; late = less.0 (sym c.is_le.ensures ∙ t) },
+      λ h. c.is_le.ensures ∙ less.1 h.late,
     )
