@@ -7,26 +7,26 @@ use Rattle.hall.proofs.Faults.{some_then, none_then, tells_second, exits, test_f
 use Rattle.hall.proofs.Corners.{each_near_read, outline_read, length_read, numbers_near}
 use Rattle.hall.proofs.audit.check_shape.Goals as goal
 
-pub returns-in-err-check_count : goal.returns-in-err-check_count
+pub returns-in_err-check_count : goal.returns-in_err-check_count
 unfolding shape_fault
-returns-in-err-check_count c = exits _ _ _ c.from_residual.ensures.1 (some_then _ _ _ (simp c.byte_at-n.ensures at c.in-err-check_count.ensures))
+returns-in_err-check_count c = exits _ _ _ c.from_residual.ensures.1 (some_then _ _ _ (simp c.byte_at-n.ensures at c.in_err-check_count.ensures))
 
-pub returns-in-err-check_numbers : goal.returns-in-err-check_numbers
+pub returns-in_err-check_numbers : goal.returns-in_err-check_numbers
 unfolding shape_fault
-returns-in-err-check_numbers c =
-    exits _ _ _ c.from_residual-in-err-check_numbers.ensures.1
-    (none_then _ _ (simp c.byte_at-n.ensures at c.in-ok-check_count.ensures) ∙ some_then _ _ _ c.in-err-check_numbers.ensures)
+returns-in_err-check_numbers c =
+    exits _ _ _ c.from_residual-in_err-check_numbers.ensures.1
+    (none_then _ _ (simp c.byte_at-n.ensures at c.in_ok-check_count.ensures) ∙ some_then _ _ _ c.in_err-check_numbers.ensures)
 
 pub check_bends-requires : goal.check_bends-requires
 check_bends-requires c =
     let n = c.byte_at-n.result in
-    let h : n ≤ 8 = leb-true n 8 (and_parts (leb 3 n) (leb n 8) (test_from_none _ _ c.in-ok-check_count.ensures)).1 in
+    let h : n ≤ 8 = leb-true n 8 (and_parts (leb 3 n) (leb n 8) (test_from_none _ _ c.in_ok-check_count.ensures)).1 in
     let z : n - 0 ≡ n = omega arith in
     let room : length c.corners_at-corners.result ≡ 8 = search rules in
     let bs = c.args.bytes.now in
     let at = c.args.at in
     let t : (k : ℕ) → k < 2 * n → near c.args.limit (signed_2 bs (at + 1 + 2 * k)) ≡ true =
-    λ k l. numbers_near c.args.limit bs at (2 * byte bs at) c.in-ok-check_numbers.ensures k (omega (arith, c.byte_at-n.ensures)) in
+    λ k l. numbers_near c.args.limit bs at (2 * byte bs at) c.in_ok-check_numbers.ensures k (omega (arith, c.byte_at-n.ensures)) in
     let e : length (take n c.corners_at-corners.result) ≡ n = length_read bs c.corners_at-corners.result (at + 1) n room h c.corners_at-corners.ensures in
     record {
       near = rw z (each_near_read bs c.corners_at-corners.result (at + 1) n room h c.corners_at-corners.ensures c.args.limit 2047 c.requires.limit t);
@@ -38,7 +38,7 @@ pub returns : goal.returns
 unfolding shape_fault
 returns c =
     let n = c.byte_at-n.result in
-    let h : n ≤ 8 = leb-true n 8 (and_parts (leb 3 n) (leb n 8) (test_from_none _ _ c.in-ok-check_count.ensures)).1 in
+    let h : n ≤ 8 = leb-true n 8 (and_parts (leb 3 n) (leb n 8) (test_from_none _ _ c.in_ok-check_count.ensures)).1 in
     let z : n - 0 ≡ n = omega arith in
     let room : length c.corners_at-corners.result ≡ 8 = search rules in
     let bs = c.args.bytes.now in
@@ -46,5 +46,5 @@ returns c =
     let e : outline_of (take n c.corners_at-corners.result) ≡ corners_at n bs (at + 1) = outline_read bs c.corners_at-corners.result (at + 1) n room h c.corners_at-corners.ensures in
     let f : outline_of (take (n - 0) c.corners_at-corners.result) ≡ shape_at bs at =
     ap (λ (m : ℕ). outline_of (take m c.corners_at-corners.result)) z ∙ (e ∙ ap (λ (m : ℕ). corners_at m bs (at + 1)) c.byte_at-n.ensures) in
-    tells_second _ _ _ (simp c.byte_at-n.ensures at c.in-ok-check_count.ensures)
-    (tells_second _ _ _ c.in-ok-check_numbers.ensures (simp f at c.check_bends.ensures))
+    tells_second _ _ _ (simp c.byte_at-n.ensures at c.in_ok-check_count.ensures)
+    (tells_second _ _ _ c.in_ok-check_numbers.ensures (simp f at c.check_bends.ensures))

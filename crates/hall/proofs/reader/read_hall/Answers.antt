@@ -13,9 +13,9 @@ use Rattle.hall.proofs.Readings.{bytes_from_fits, refuses, fit, load_sized, load
 use Rattle.hall.proofs.Roundtrip.{task_reads_back, task_writes_back}
 use Rattle.hall.proofs.reader.read_hall.Goals as goal
 
-pub returns-in-err-check_task : goal.returns-in-err-check_task
-returns-in-err-check_task c =
-    refuses task_fault task_at Fit task_bytes task_of (λ t f. (task_reads_back t f).0) c.args.bytes.now _ _ c.from_residual.ensures.1 c.in-err-check_task.ensures
+pub returns-in_err-check_task : goal.returns-in_err-check_task
+returns-in_err-check_task c =
+    refuses task_fault task_at Fit task_bytes task_of (λ t f. (task_reads_back t f).0) c.args.bytes.now _ _ c.from_residual.ensures.1 c.in_err-check_task.ensures
 
 pub things_at-requires : goal.things_at-requires
 things_at-requires c =
@@ -25,11 +25,11 @@ things_at-requires c =
       at = omega arith;
       drawn = λ k l.
           subst (λ (n : ℕ). Drawn 2047 (shape_at bs (past k bs (n + 1)))) (sym c.lay_out-layout.ensures.count_from)
-          (thing_drawn bs c.in-ok-check_task.ensures k (omega (arith, c.lay_out-layout.ensures.things)));
+          (thing_drawn bs c.in_ok-check_task.ensures k (omega (arith, c.lay_out-layout.ensures.things)));
     }
 
 pub shape_at-requires : goal.shape_at-requires
-shape_at-requires c = record { at = omega arith; drawn = load_drawn c.args.bytes.now c.in-ok-check_task.ensures }
+shape_at-requires c = record { at = omega arith; drawn = load_drawn c.args.bytes.now c.in_ok-check_task.ensures }
 
 -- the things, the start and the goal as they stand in the bytes
 module _ (bs : List ℕ) (l : Layout) (count : l.count_from ≡ count_from bs) (things : l.things ≡ thing_count bs) (start : l.start_from ≡ start_from bs) where
@@ -45,40 +45,31 @@ module _ (bs : List ℕ) (l : Layout) (count : l.count_from ≡ count_from bs) (
 abbrev EachSized : List Shape → Type 0
 EachSized ss = (k : ℕ) → k < length ss → Sized 1000 (get_or ss k [])
 
-pub invariant-of-result : goal.invariant-of-result
+pub invariant_of-result : goal.invariant_of-result
 unfolding task_at
-invariant-of-result c =
+invariant_of-result c =
     let bs = c.args.bytes.now in
     let l = c.lay_out-layout.result in
     let g = c.lay_out-layout.ensures in
-    let e = c.in-ok-check_task.ensures in
+    let e = c.in_ok-check_task.ensures in
     let f = fit bs e in
-    let m = c.in-ok-things.ensures in
+    let m = c.in_ok-things.ensures in
     let b = few_things bs e in
     let ts = m.0 ∙ things-are bs l g.count_from g.things g.start_from in
     let s = c.place_at.ensures ∙ start_is bs l g.count_from g.things g.start_from in
-    let t = c.place_at-2.ensures ∙ goal-is bs l g.count_from g.things g.start_from in (
-      (omega (arith, f.wide, c.u16_at.ensures), omega (arith, f.high, c.u16_at-2.ensures)),
-      (
-        omega (arith, m.1, g.things),
-        (
-          m.2,
-          (
-            (
-              holds (ap (within 200) c.shape_at.ensures ∙ within_from_sized 200 (shape_at bs 4) (load_sized bs e)),
-              holds (all_within_from 1000 (values c.in-ok-things.things) (subst EachSized (sym ts) f.things)),
-            ),
-            (
-              (
-                holds (bounded_from (2 ^ 20) c.place_at.result (subst (Bounded (2 ^ 20)) (sym s) f.start)),
-                holds (bounded_from (2 ^ 20) c.place_at-2.result (subst (Bounded (2 ^ 20)) (sym t) f.goal)),
-              ),
-              tt,
-            ),
-          ),
-        ),
-      ),
-    )
+    let t = c.place_at-2.ensures ∙ goal-is bs l g.count_from g.things g.start_from in
+    record {
+      walls = (omega (arith, f.wide, c.u16_at.ensures), omega (arith, f.high, c.u16_at-2.ensures));
+      few = omega (arith, m.1, g.things);
+      near = (
+        holds (ap (within 200) c.shape_at.ensures ∙ within_from_sized 200 (shape_at bs 4) (load_sized bs e)),
+        holds (all_within_from 1000 (values c.in_ok-things.things) (subst EachSized (sym ts) f.things)),
+      );
+      ends = (
+        holds (bounded_from (2 ^ 20) c.place_at.result (subst (Bounded (2 ^ 20)) (sym s) f.start)),
+        holds (bounded_from (2 ^ 20) c.place_at-2.result (subst (Bounded (2 ^ 20)) (sym t) f.goal)),
+      );
+    }
 
 pub returns : goal.returns
 unfolding task_at
@@ -86,9 +77,9 @@ returns c =
     let bs = c.args.bytes.now in
     let l = c.lay_out-layout.result in
     let g = c.lay_out-layout.ensures in
-    let e = c.in-ok-check_task.ensures in
+    let e = c.in_ok-check_task.ensures in
     let r =
-    same_task c.shape_at.ensures (c.in-ok-things.ensures.0 ∙ things-are bs l g.count_from g.things g.start_from) c.u16_at.ensures c.u16_at-2.ensures
+    same_task c.shape_at.ensures (c.in_ok-things.ensures.0 ∙ things-are bs l g.count_from g.things g.start_from) c.u16_at.ensures c.u16_at-2.ensures
     (c.place_at.ensures ∙ start_is bs l g.count_from g.things g.start_from) (c.place_at-2.ensures ∙ goal-is bs l g.count_from g.things g.start_from) in
-    let w = task_writes_back bs (bytes_from_fits bs c.type-inv.bytes) e in
+    let w = task_writes_back bs (bytes_from_fits bs c.type_inv.bytes) e in
     record { faultless = e; read = r; written = sym w.0 ∙ ap task_bytes (sym r); good = subst Fit (sym r) w.1 }

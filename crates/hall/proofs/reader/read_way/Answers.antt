@@ -11,29 +11,30 @@ use Rattle.hall.proofs.Readings.{bytes_from_fits, refuses, all_bounded_from}
 use Rattle.hall.proofs.Roundtrip.{way_reads_back, way_writes_back}
 use Rattle.hall.proofs.reader.read_way.Goals as goal
 
-pub returns-in-err-check_way : goal.returns-in-err-check_way
-returns-in-err-check_way c =
-    refuses way_fault way_at Fitting way_bytes places_of (λ ps f. (way_reads_back ps f).0) c.args.bytes.now _ _ c.from_residual.ensures.1 c.in-err-check_way.ensures
+pub returns-in_err-check_way : goal.returns-in_err-check_way
+returns-in_err-check_way c =
+    refuses way_fault way_at Fitting way_bytes places_of (λ ps f. (way_reads_back ps f).0) c.args.bytes.now _ _ c.from_residual.ensures.1 c.in_err-check_way.ensures
 
 abbrev EachBounded : List Place → Type 0
 EachBounded ps = (k : ℕ) (d : Place) → k < length ps → Bounded (2 ^ 60 - 1) (get_or ps k d)
 
-pub invariant-of-result : goal.invariant-of-result
+pub invariant_of-result : goal.invariant_of-result
 unfolding way_at
-invariant-of-result c =
+invariant_of-result c =
     let bs = c.args.bytes.now in
-    let v = c.in-ok-places.places in
-    let w = (way_writes_back bs (bytes_from_fits bs c.type-inv.bytes) c.in-ok-check_way.ensures).1 in
-    let r = c.in-ok-places.ensures ∙ ap (λ (n : ℕ). places_at n bs 2) c.u16_at.ensures in (
-      omega (arith, w.few, ap length r, length-map (vec_items v) place_of, v.ok.0),
-      (holds (all_bounded_from (2 ^ 60 - 1) (vec_items v) (subst EachBounded (sym r) w.places)), tt),
-    )
+    let v = c.in_ok-places.places in
+    let w = (way_writes_back bs (bytes_from_fits bs c.type_inv.bytes) c.in_ok-check_way.ensures).1 in
+    let r = c.in_ok-places.ensures ∙ ap (λ (n : ℕ). places_at n bs 2) c.u16_at.ensures in
+    record {
+      few = omega (arith, w.few, ap length r, length-map v.items place_of);
+      near = holds (all_bounded_from (2 ^ 60 - 1) v.items (subst EachBounded (sym r) w.places));
+    }
 
 pub returns : goal.returns
 unfolding way_at
 returns c =
     let bs = c.args.bytes.now in
-    let e = c.in-ok-check_way.ensures in
-    let w = way_writes_back bs (bytes_from_fits bs c.type-inv.bytes) e in
-    let r = c.in-ok-places.ensures ∙ ap (λ (n : ℕ). places_at n bs 2) c.u16_at.ensures in
+    let e = c.in_ok-check_way.ensures in
+    let w = way_writes_back bs (bytes_from_fits bs c.type_inv.bytes) e in
+    let r = c.in_ok-places.ensures ∙ ap (λ (n : ℕ). places_at n bs 2) c.u16_at.ensures in
     record { faultless = e; read = r; written = sym w.0 ∙ ap way_bytes (sym r); good = subst Fitting (sym r) w.1 }

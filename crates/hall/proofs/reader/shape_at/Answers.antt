@@ -19,19 +19,18 @@ module _ (bs : List ℕ) (cs : List Corner) (at n : ℕ) (room : length cs ≡ 8
   made : outline n cs ≡ shape_at bs at
   made = outline_read bs cs (at + 1) n room few reads ∙ ap (λ (m : ℕ). corners_at m bs (at + 1)) count
 
-pub invariant-of-result : goal.invariant-of-result
-invariant-of-result c =
+pub invariant_of-result : goal.invariant_of-result
+invariant_of-result c =
     let bs = c.args.bytes.now in
     let cs = c.corners_at.result in
     let room : length cs ≡ 8 = search rules in
     let e = made bs cs c.args.at c.byte_at.result room c.byte_at.ensures c.corners_at.ensures c.requires.drawn in
-    let f = few bs cs c.args.at c.byte_at.result room c.byte_at.ensures c.corners_at.ensures c.requires.drawn in (
-      (f, room, omega arith),
-      (
-        holds (ap (within 2047) e ∙ within_from_sized 2047 (shape_at bs c.args.at) c.requires.drawn.sized),
-        (holds (ap sound e ∙ true_sound (shape_at bs c.args.at) c.requires.drawn.sound), tt),
-      ),
-    )
+    let f = few bs cs c.args.at c.byte_at.result room c.byte_at.ensures c.corners_at.ensures c.requires.drawn in
+    record {
+      few = (f, room, omega arith);
+      near = holds (ap (within 2047) e ∙ within_from_sized 2047 (shape_at bs c.args.at) c.requires.drawn.sized);
+      sound = holds (ap sound e ∙ true_sound (shape_at bs c.args.at) c.requires.drawn.sound);
+    }
 
 pub returns : goal.returns
 returns c =

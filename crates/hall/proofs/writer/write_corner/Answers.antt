@@ -10,5 +10,5 @@ returns c =
     let x = c.args.c.x in
     let y = c.args.c.y in
     adds_next c.write_i16-2.result (vec_items c.args.out.now) _ _ (piece x) (piece y)
-    c.in-ok-write_i16.ensures (ap piece (to_z-of_z w64 x (search rules)))
+    c.in_ok-write_i16.ensures (ap piece (to_z-of_z w64 x (search rules)))
     c.write_i16-2.ensures (ap piece (to_z-of_z w64 y (search rules)))

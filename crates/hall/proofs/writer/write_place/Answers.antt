@@ -11,7 +11,7 @@ returns c =
     let y = c.args.p.y in
     let w = digits 8 c.args.p.w in
     adds_next c.write_u64.result (vec_items c.args.out.now) _ _ (piece x) (piece y ++ w)
-    c.in-ok-write_i64.ensures (ap piece (to_z-of_z w64 x (search rules)))
+    c.in_ok-write_i64.ensures (ap piece (to_z-of_z w64 x (search rules)))
     (adds_next c.write_u64.result (vec_items c.write_i64.new.out) _ _ (piece y) w
-    c.in-ok-write_i64-2.ensures (ap piece (to_z-of_z w64 y (search rules)))
+    c.in_ok-write_i64-2.ensures (ap piece (to_z-of_z w64 y (search rules)))
     c.write_u64.ensures refl) refl

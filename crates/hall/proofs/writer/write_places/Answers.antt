@@ -14,7 +14,7 @@ pub loop-p-preserved : goal.loop-p-preserved
 loop-p-preserved c =
     let nowhere : Place = record { x = pos 0; y = pos 0; w = 0 } in
     joined_step place_bytes place_of c.deref-p-items.result.now c.loop-p.p-index nowhere (vec_items c.args.out.now) _ (vec_items c.write_place.new.out)
-    c.loop-p-test.true c.loop-p.invariant c.in-ok-write_place.ensures
+    c.loop-p-test.true c.loop-p.invariant c.in_ok-write_place.ensures
 
 pub returns : goal.returns
 returns c =

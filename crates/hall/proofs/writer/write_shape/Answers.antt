@@ -14,7 +14,7 @@ loop-k-preserved c =
     let h : c.loop-k.k < length c.args.shape.now.corners = search rules in (
       omega arith,
       joined_step corner_bytes corner_of c.args.shape.now.corners c.loop-k.k zero (vec_items c.push.new.self) _ _
-          h c.loop-k.invariant.1 c.in-ok-write_corner.ensures,
+          h c.loop-k.invariant.1 c.in_ok-write_corner.ensures,
     )
 
 pub returns : goal.returns
@@ -22,4 +22,4 @@ returns c =
     let s = c.args.shape.now in
     let e : c.loop-k.k ≡ s.count = omega arith in
     shape_written s.corners s.count c.loop-k.k (vec_items c.args.out.now) {between = vec_items c.push.new.self} e c.loop-k.invariant.0
-    c.in-ok-push.ensures.items c.loop-k.invariant.1
+    c.in_ok-push.ensures.items c.loop-k.invariant.1

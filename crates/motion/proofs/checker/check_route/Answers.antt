@@ -24,11 +24,11 @@ goal-real h = (bounded_holds (2 ^ 20) h.goal h.ends.1).real
 route-real : (r : Route) (k : ℕ) → k < length (places_of r) → 0 < (place (places_of r) k).w
 route-real r k l = (route_bounded (2 ^ 60 - 1) (vec_items r.places) r.near k (omega (arith, length-map (vec_items r.places) place_of))).real
 
-pub returns-in-err-check_places : goal.returns-in-err-check_places
-returns-in-err-check_places c =
+pub returns-in_err-check_places : goal.returns-in_err-check_places
+returns-in_err-check_places c =
     let h = c.args.hall.now in
     let r = c.args.route.now in
-    let w = subst (λ (qs : List Place). WrongPlace (task_of h).hall (task_of h).start (task_of h).goal (map place_of qs) c.in-err-check_places.field-0.0) c.places-places.ensures c.in-err-check_places.ensures in
+    let w = subst (λ (qs : List Place). WrongPlace (task_of h).hall (task_of h).start (task_of h).goal (map place_of qs) c.in_err-check_places.field-0.0) c.places-places.ensures c.in_err-check_places.ensures in
     let j = judged_wrong (task_of h).hall (task_of h).start (task_of h).goal (places_of r) c.from_residual.result _ c.from_residual.ensures.1 w in
     record { judged = j; exact = exactly _ _ _ (places_of r) (start-real h) (goal-real h) (route-real r) c.from_residual.result j }
 
@@ -42,7 +42,7 @@ returns-in-Ok c =
     let h = c.args.hall.now in
     let r = c.args.route.now in
     let os = vec_items c.in-Ok.obstacles in
-    let a = subst (λ (qs : List Place). AllRight (task_of h).hall (task_of h).start (task_of h).goal (map place_of qs)) c.places-places.ensures c.in-ok-check_places.ensures in
+    let a = subst (λ (qs : List Place). AllRight (task_of h).hall (task_of h).start (task_of h).goal (map place_of qs)) c.places-places.ensures c.in_ok-check_places.ensures in
     let s₀ = subst (λ (qs : List Place). StretchesJudged (map shape_of c.as_slice.result.now) (map place_of qs) c.check_stretches.result) c.places-places.ensures c.check_stretches.ensures in
     let s = subst (λ (gs : List (Shape 16)). StretchesJudged (map shape_of gs) (places_of r) c.check_stretches.result) c.as_slice.ensures.value s₀ in
     let j = judged (task_of h).hall (task_of h).start (task_of h).goal (places_of r) (map shape_of os) c.in-Ok.ensures (start-real h) (goal-real h) (route-real r) c.check_stretches.result a s in

@@ -13,14 +13,14 @@ pub grow_each-requires : goal.grow_each-requires
 grow_each-requires c =
     record {
       load = within_wider 200 1000 (shape_of c.load-load.result) (omega arith) c.load-load.ensures.bound;
-      things = subst (λ (ss : List (Shaped 8)). T (all_within 1000 ss)) (sym c.as_slice.ensures.value) c.in-ok-things.ensures.1;
+      things = subst (λ (ss : List (Shaped 8)). T (all_within 1000 ss)) (sym c.as_slice.ensures.value) c.in_ok-things.ensures.1;
     }
 
 pub returns : goal.returns
 returns c =
     let h = (task_of c.args.hall.now).hall in
     let ts = c.as_slice.result.now in
-    let e : map shape_of ts ≡ h.things = ap (map shape_of) c.as_slice.ensures.value ∙ c.in-ok-things.ensures.0 in
+    let e : map shape_of ts ≡ h.things = ap (map shape_of) c.as_slice.ensures.value ∙ c.in_ok-things.ensures.0 in
     let l : length ts ≡ length h.things = sym (length-map ts shape_of) ∙ ap length e in
     IfOk-weaker c.grow_each.result _ _
     (λ v o.

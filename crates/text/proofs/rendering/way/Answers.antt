@@ -7,10 +7,10 @@ use Rattle.text.proofs.rendering.way.Goals as goal
 
 pub loop-place-init : goal.loop-place-init
 unfolding lines
-loop-place-init c = c.in-ok-text.ensures.ok
+loop-place-init c = c.in_ok-text.ensures.ok
 
 pub loop-place-preserved : goal.loop-place-preserved
-loop-place-preserved c = lines_more (codes "way\n") _ _ c.args.places.now c.loop-place.place-index _ c.loop-place-test.true c.loop-place.invariant c.in-ok-add_line.ensures
+loop-place-preserved c = lines_more (codes "way\n") _ _ c.args.places.now c.loop-place.place-index _ c.loop-place-test.true c.loop-place.invariant c.in_ok-add_line.ensures
 
 pub returns : goal.returns
 returns c = c.loop-place.invariant ∙ ap (λ (ps : List Place). codes "way\n" ++ lines ps) (take_all c.loop-place.place-index c.args.places.now c.loop-place-test.false)

@@ -9,4 +9,4 @@ pub returns : goal.returns
 returns c =
     let r = c.args.self.now in
     let n : c.len.result ≡ length (places_of r) = omega (arith, length-map (vec_items r.places) place_of) in
-    way_written (places_of r) c.len.result {b2 = vec_items c.write_places.new.out} n c.new-bytes.ensures.items c.in-ok-write_u16.ensures c.in-ok-write_places.ensures
+    way_written (places_of r) c.len.result {b2 = vec_items c.write_places.new.out} n c.new-bytes.ensures.items c.in_ok-write_u16.ensures c.in_ok-write_places.ensures

@@ -2,8 +2,8 @@ use Rattle.std.proofs.Common.{◌<◌, ◌≤◌, length, arith}
 use Rattle.hall.proofs.Kept.{length_kept, corner_kept, near_kept}
 use Rattle.hall.proofs.shapes.Shape.corner.Goals as goal
 
-pub offset-bounds-self-i : goal.offset-bounds-self-i
-offset-bounds-self-i g c =
+pub offset_bounds-self-i : goal.offset_bounds-self-i
+offset_bounds-self-i g c =
     let s = c.args.self.now in
     let few : s.count ≤ length s.corners = omega (arith, s.few) in
     record { fits = omega (arith, s.few, c.requires, length_kept s.count s.corners few) }

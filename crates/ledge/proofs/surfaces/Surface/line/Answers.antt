@@ -14,8 +14,8 @@ stands c = stands_top c.args.obstacles.now c.args.self c.in-Top.obstacle c.in-To
 pub bounds-obstacles-obstacle : goal.bounds-obstacles-obstacle
 bounds-obstacles-obstacle c = (stands c).0
 
-pub offset-bounds-obstacles-obstacle : goal.offset-bounds-obstacles-obstacle
-offset-bounds-obstacles-obstacle c = let h : c.in-Top.obstacle < length c.args.obstacles.now = (stands c).0 in search rules
+pub offset_bounds-obstacles-obstacle : goal.offset_bounds-obstacles-obstacle
+offset_bounds-obstacles-obstacle c = let h : c.in-Top.obstacle < length c.args.obstacles.now = (stands c).0 in search rules
 
 pub side-run-requires : goal.side-run-requires
 side-run-requires c =
