@@ -7,19 +7,19 @@ use Rattle.ledge.proofs.runs.stop_after.Goals.{then-not-is_lt+then-is_lt, else-n
 pub loop-shadow-init : goal.loop-shadow-init
 loop-shadow-init c = sofar_none c.args.shadows.now c.args.spot c.right_end-stop.result c.right_end-stop.ensures
 
-pub loop-shadow-preserved-in-default : goal.loop-shadow-preserved-in-default
-loop-shadow-preserved-in-default c =
+pub loop-shadow-preserved-in_default : goal.loop-shadow-preserved-in_default
+loop-shadow-preserved-in_default c =
     let ss = c.args.shadows.now in
     let i = c.loop-shadow.shadow-index in
     pass_none ss c.args.spot c.loop-shadow.stop i c.loop-shadow.invariant
-    (item_is ss i c.shadow-item.result None c.loop-shadow-test.true c.shadow-item.is c.in-default.is)
+    (item_is ss i c.shadow-item.result None c.loop-shadow-test.true c.shadow-item.is c.in_default.is)
 
-pub loop-shadow-preserved-in-default-from : goal.loop-shadow-preserved-in-default-from
-loop-shadow-preserved-in-default-from c =
+pub loop-shadow-preserved-in_default-from : goal.loop-shadow-preserved-in_default-from
+loop-shadow-preserved-in_default-from c =
     let ss = c.args.shadows.now in
     let i = c.loop-shadow.shadow-index in
     pass_open ss c.args.spot c.loop-shadow.stop i c.loop-shadow.invariant c.in-Some.shadow
-    (item_is ss i c.shadow-item.result (Some c.in-Some.shadow) c.loop-shadow-test.true c.shadow-item.is c.in-Some.is) c.in-default-from.is
+    (item_is ss i c.shadow-item.result (Some c.in-Some.shadow) c.loop-shadow-test.true c.shadow-item.is c.in-Some.is) c.in_default-from.is
 
 pub loop-shadow-preserved : goal.loop-shadow-preserved
 loop-shadow-preserved c =

@@ -11,12 +11,12 @@ cut-requires g c =
       opens = c.loop-i.invariant.opens;
     }
 
-pub returns-in-default : goal.returns-in-default
-returns-in-default g c =
+pub returns-in_default : goal.returns-in_default
+returns-in_default g c =
     let s = shape_of c.args.shape.now in
     let l : c.loop-i.i < length s = omega (arith, c.len-i-end.ensures.value) in
     sofar_gone s (corner_of c.args.surface.from) (corner_of c.args.surface.to) c.loop-i.i c.loop-i.shadow c.against.result c.loop-i.invariant
-    (edge_reading s c.loop-i.i c.args.surface c.side.result c.against.result c.against.ensures c.side.ensures.from c.side.ensures.to) l c.in-default.ensures
+    (edge_reading s c.loop-i.i c.args.surface c.side.result c.against.result c.against.ensures c.side.ensures.from c.side.ensures.to) l c.in_default.ensures
 
 pub loop-i-preserved : goal.loop-i-preserved
 loop-i-preserved g c =

@@ -47,7 +47,7 @@ loop-k-preserved c =
     let k = c.loop-k.k in
     let l : k < stretches (length ps) = omega (arith, c.count_stretches-k-end.ensures) in
     below_more _ _ c.loop-k.invariant
-    (along (PassesAll gs) ps k c.ahead_of.result l c.ahead_of.ensures.value c.ahead_of.ensures.bound c.in-default.ensures)
+    (along (PassesAll gs) ps k c.ahead_of.result l c.ahead_of.ensures.value c.ahead_of.ensures.bound c.in_default.ensures)
 
 pub returns : goal.returns
 returns c = λ a l. c.loop-k.invariant a (omega (arith, c.count_stretches-k-end.ensures, ap stretches (length-map c.args.places.now place_of)))
