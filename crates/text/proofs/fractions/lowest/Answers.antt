@@ -20,14 +20,14 @@ divisor-is : (c : goal.After-from-2) → c.gcd-shared.result ≡ shared c.args.x
 divisor-is c = sym (shared_is c.args.x c.args.w c.gcd-shared.result (some c) (divisor c))
 
 quotient : (c : goal.After-from-2) → quot_z (to_z w128 (of_z w128 c.from.result)) (to_z w128 (of_z w128 c.from-2.result)) ≡ quot_z c.args.x (pos c.gcd-shared.result)
-quotient c = operands c.args.x c.from.result c.from-2.result c.gcd-shared.result c.ranges.x (record { sfits = c.from.type-inv }) (record { sfits = c.from-2.type-inv }) c.from.ensures c.from-2.ensures
+quotient c = operands c.args.x c.from.result c.from-2.result c.gcd-shared.result c.ranges.x (record { sfits = c.from.type_inv }) (record { sfits = c.from-2.type_inv }) c.from.ensures c.from-2.ensures
 
-pub nonzero-div-result : goal.nonzero-div-result
-nonzero-div-result c = pos_of_dvd_of_pos (divisor c).right (some c)
+pub nonzero_div-result : goal.nonzero_div-result
+nonzero_div-result c = pos_of_dvd_of_pos (divisor c).right (some c)
 
-pub nonzero-div-num : goal.nonzero-div-num
-nonzero-div-num c = (
-  subst (λ (z : ℤ). 0 < of_z w128 z) (sym c.from-2.ensures) (nonzero-div-result c),
+pub nonzero_div-num : goal.nonzero_div-num
+nonzero_div-num c = (
+  subst (λ (z : ℤ). 0 < of_z w128 z) (sym c.from-2.ensures) (nonzero_div-result c),
   subst (SFits w128) (sym (quotient c)) (quot_wide c.args.x c.gcd-shared.result c.ranges.x),
 )
 
