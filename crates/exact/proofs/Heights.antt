@@ -1,5 +1,5 @@
 -- The heights of two lines over one abscissa. Assumes nothing.
-use Rattle.std.proofs.Common.{◌≡◌, ℕ, ◌<◌, [], ◌∷◌, ℤ, pos, ◌+ℤ◌, ◌-ℤ◌, ◌*ℤ◌, neg_ℤ, ◌<ℤ◌, sym, refl, ap, ◌∙◌, ap₂}
+use Rattle.std.proofs.Common.{◌≡◌, ◌<◌, [], ◌∷◌, ℤ, pos, ◌+ℤ◌, ◌-ℤ◌, ◌*ℤ◌, neg_ℤ, ◌<ℤ◌, sym, refl, ap, ◌∙◌, ap₂}
 use Rattle.algebra.specs.Hall as hall
 use Rattle.algebra.specs.Hall.{side}
 use Rattle.algebra.proofs.Polynomial.{forms, by_ring}

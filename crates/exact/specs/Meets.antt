@@ -1,5 +1,5 @@
 -- Where two sides meet. Assumes nothing: these are definitions.
-use Rattle.std.specs.Prelude.{◌≡◌, ℕ, ◌+◌, ◌-◌, ◌^◌, ◌<◌, ◌⊎◌, pos, ◌*ℤ◌, Option, MatchOption}
+use Rattle.std.specs.Prelude.{◌≡◌, ℕ, ◌+◌, ◌-◌, ◌^◌, ◌<◌, ◌⊎◌, pos, Option, MatchOption}
 use Rattle.algebra.specs.Hall as hall
 use Rattle.algebra.specs.Hall.{at, between, side}
 use Rattle.algebra.specs.Forms.{Same}

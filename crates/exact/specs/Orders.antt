@@ -1,5 +1,5 @@
 -- How places and sides lie to each other, left to right and low to high. Assumes nothing: these are definitions.
-use Rattle.std.specs.Prelude.{◌≡◌, ℕ, ◌^◌, ◌<◌, ℤ, pos, ◌-ℤ◌, ◌*ℤ◌, ◌<ℤ◌}
+use Rattle.std.specs.Prelude.{◌≡◌, ◌^◌, ◌<◌, ℤ, pos, ◌-ℤ◌, ◌*ℤ◌, ◌<ℤ◌}
 use Rattle.algebra.specs.Hall as hall
 use Rattle.algebra.specs.Hall.{side}
 use Rattle.algebra.specs.Near.{Near}

@@ -1,5 +1,5 @@
 -- How large corners, places and sides are, and the direction of a side. Assumes nothing: these are definitions.
-use Rattle.std.specs.Prelude.{◌≡◌, ℕ, ◌≤◌, ℤ, ◌-ℤ◌, ◌*ℤ◌}
+use Rattle.std.specs.Prelude.{ℕ, ◌≤◌, ℤ, ◌-ℤ◌, ◌*ℤ◌}
 use Rattle.algebra.specs.Near.{Near}
 use Rattle.exact.specs.declared.points.Corner.{Corner}
 use Rattle.exact.specs.declared.points.Place.{Place}

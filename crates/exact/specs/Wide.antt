@@ -1,5 +1,5 @@
 -- Numbers in parts of 48 bits. Assumes nothing: these are definitions.
-use Rattle.std.specs.Prelude.{◌≡◌, ℕ, ◌-◌, ◌^◌, ℤ, pos, ◌+ℤ◌, ◌*ℤ◌, ◌≤ℤ◌}
+use Rattle.std.specs.Prelude.{ℕ, ◌-◌, ◌^◌, ℤ, pos, ◌+ℤ◌, ◌*ℤ◌, ◌≤ℤ◌}
 use Rattle.algebra.specs.Near.{Near}
 use Rattle.exact.specs.declared.wide.Halves.{Halves}
 use Rattle.exact.specs.declared.wide.Thirds.{Thirds}

@@ -1,12 +1,11 @@
 -- The corners that were read make the shape that stands in the bytes, and keep its bounds. Assumes nothing.
-use Rattle.std.proofs.Common.{◌≡◌, ℕ, ◌+◌, ◌*◌, ◌<◌, ◌≤◌, Bool, true, List, length, get_or, take, ℤ, pos, None, sym, refl, ap, ◌∙◌, subst, arith}
+use Rattle.std.proofs.Common.{◌≡◌, ℕ, ◌+◌, ◌*◌, ◌<◌, ◌≤◌, true, List, length, get_or, take, ℤ, pos, None, sym, ap, ◌∙◌, subst, arith}
 use Rattle.std.proofs.lemmas.List.{ext_get_or, get_or-take, length-take-le}
 use Rattle.std.proofs.lemmas.Int.{ints}
 use Rattle.algebra.specs.Hall as hall
 use Rattle.algebra.specs.Near.{Near}
 use Rattle.exact.specs.declared.points.Corner.{Corner}
 use Rattle.exact.specs.Points.{corner_of, zero}
-use Rattle.exact.specs.Sides.{CornerNear}
 use Rattle.hall.specs.Bytes.{signed_2}
 use Rattle.hall.specs.Format.{near, first_below, number_at, corner_at, corners_at}
 use Rattle.hall.specs.Outlines.{outline_of, EachNear}

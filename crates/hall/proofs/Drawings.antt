@@ -1,8 +1,7 @@
 -- The tests that the types of shapes, halls and ways keep, from what is known of what was read. Assumes nothing.
-use Rattle.std.proofs.Common.{◌≡◌, ℕ, ◌≤◌, Bool, true, T, length, sym, subst}
+use Rattle.std.proofs.Common.{◌≡◌, ℕ, Bool, true, T, length, sym, subst}
 use Rattle.std.proofs.lemmas.Bool.{and_from, le-leb}
-use Rattle.algebra.specs.Hall.{Shape, Place, corner}
-use Rattle.algebra.specs.Near.{Near}
+use Rattle.algebra.specs.Hall.{Shape, corner}
 use Rattle.exact.specs.declared.points.Place as code
 use Rattle.exact.specs.Points.{place_of}
 use Rattle.hall.specs.Outlines.{within, bounded}

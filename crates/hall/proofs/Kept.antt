@@ -1,5 +1,5 @@
 -- What a shape keeps by its type. Assumes nothing.
-use Rattle.std.proofs.Common.{◌≡◌, ℕ, ◌<◌, ◌≤◌, Bool, true, false, T, List, length, get_or, take, sym, refl, ap, ◌∙◌, arith}
+use Rattle.std.proofs.Common.{◌≡◌, ℕ, ◌<◌, ◌≤◌, Bool, true, false, T, List, length, get_or, take, sym, refl, ap, ◌∙◌}
 use Rattle.std.proofs.lemmas.List.{length-take-le, get_or-take}
 use Rattle.std.proofs.lemmas.Bool.{and_parts}
 use Rattle.algebra.specs.Hall as hall
@@ -8,7 +8,7 @@ use Rattle.algebra.specs.Near.{Near}
 use Rattle.exact.specs.declared.points.Corner.{Corner}
 use Rattle.exact.specs.Points.{corner_of, zero}
 use Rattle.exact.specs.Sides.{CornerNear}
-use Rattle.hall.specs.Format.{sound, near}
+use Rattle.hall.specs.Format.{sound}
 use Rattle.hall.specs.Outlines.{outline, within}
 use Rattle.hall.proofs.Faults.{all_at}
 use Rattle.hall.proofs.Outlines.{corner_outline, length_outline}

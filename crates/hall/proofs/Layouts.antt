@@ -1,5 +1,5 @@
 -- The faults of a task, by where its parts begin. Assumes nothing.
-use Rattle.std.proofs.Common.{◌≡◌, ℕ, ◌+◌, ◌^◌, leb, List, length, Option, sym, refl, ap, ◌∙◌, ap₂}
+use Rattle.std.proofs.Common.{◌≡◌, ℕ, ◌+◌, ◌^◌, leb, List, length, Option, sym, ap, ◌∙◌}
 use Rattle.hall.specs.declared.refusals.Refusal.{Refusal}
 use Rattle.hall.specs.declared.refusals.Refusal.TheVariants.{Length, Number, Count}
 use Rattle.hall.specs.Bytes.{little}

@@ -1,12 +1,10 @@
 -- The corners of the code as a shape: its length, its corners and its sides. Assumes nothing.
-use Rattle.std.proofs.Common.{◌≡◌, ℕ, zero, suc, List, [], ◌∷◌, length, get_or, ℤ, Option, sym, refl, ap, ◌∙◌}
+use Rattle.std.proofs.Common.{◌≡◌, ℕ, zero, suc, List, [], ◌∷◌, length, get_or, refl, ap}
 use Rattle.std.proofs.lemmas.List.{length-map}
-use Rattle.algebra.specs.Hall as hall
 use Rattle.algebra.specs.Hall.{side, edge, at, corner, next}
 use Rattle.exact.specs.declared.points.Corner.{Corner}
 use Rattle.exact.specs.Points as points
 use Rattle.exact.specs.Points.{corner_of}
-use Rattle.hall.specs.declared.refusals.Refusal.{Refusal}
 use Rattle.hall.specs.Format.{◌then◌, first_below, bend_at, right_at, again_at, bend_fault}
 use Rattle.hall.specs.Outlines.{outline_of}
 

@@ -1,5 +1,5 @@
 -- What bytes without a fault give to the reader, and what a refusal says. Assumes nothing.
-use Rattle.std.proofs.Common.{◌≡◌, ℕ, zero, suc, ◌+◌, ◌^◌, ◌<◌, ◌≤◌, Bool, true, List, [], ◌∷◌, map, length, get_or, IsErrAnd, Some, None, Option, Result, sym, refl, ap, ◌∙◌, subst, inl, arith, w8, Fits}
+use Rattle.std.proofs.Common.{◌≡◌, ℕ, suc, ◌<◌, ◌≤◌, true, List, [], ◌∷◌, map, length, get_or, IsErrAnd, Some, None, Option, Result, refl, ap, ◌∙◌, subst, inl, arith, w8, Fits}
 use Rattle.std.specs.List.{list_all}
 use Rattle.std.proofs.lemmas.Result.{err_from_is_err_and}
 use Rattle.std.proofs.lemmas.Int.{ints}
@@ -11,7 +11,7 @@ use Rattle.exact.specs.declared.points.Place as code
 use Rattle.exact.specs.Points.{place_of}
 use Rattle.hall.specs.declared.refusals.Refusal.{Refusal}
 use Rattle.hall.specs.declared.shapes.Shape.{Shape}
-use Rattle.hall.specs.Format.{shape_at, shapes_at, past, thing_count, things_from, task_at, task_fault}
+use Rattle.hall.specs.Format.{shape_at, past, thing_count, things_from, task_at, task_fault}
 use Rattle.hall.specs.Laws.{Bytes}
 use Rattle.hall.specs.Outlines.{bounded}
 use Rattle.hall.specs.Reading.{Drawn, Refused, Read}

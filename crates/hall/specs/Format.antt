@@ -3,7 +3,7 @@ use Rattle.std.specs.Prelude.{ℕ, zero, suc, ◌+◌, ◌-◌, ◌*◌, ◌^◌
 use Rattle.std.specs.Int.{w16, w64}
 use Rattle.std.proofs.Common.{of_z}
 use Rattle.std.specs.List.{flat_map}
-use Rattle.algebra.specs.Hall.{Corner, Place, Shape, Hall, at, corner, next, edge}
+use Rattle.algebra.specs.Hall.{Corner, Place, Shape, at, corner, next, edge}
 use Rattle.hall.specs.declared.refusals.Refusal.{Refusal}
 use Rattle.hall.specs.declared.refusals.Refusal.TheVariants.{Length, Number, Count, Bend}
 use Rattle.hall.specs.Bytes.{byte, little, signed_2, signed_8, digits}

@@ -1,6 +1,6 @@
 -- What the reader promises. Assumes nothing: these are definitions.
 use Rattle.std.specs.Prelude.{◌≡◌, ℕ, ◌⊎◌, List, Some, None, Ok, Err, Option, Result, ◌≢◌}
-use Rattle.algebra.specs.Hall.{Place, Shape, Sound}
+use Rattle.algebra.specs.Hall.{Shape, Sound}
 use Rattle.hall.specs.declared.halls.Hall.{Hall}
 use Rattle.hall.specs.declared.refusals.Refusal.{Refusal}
 use Rattle.hall.specs.declared.refusals.Refusal.TheVariants.{Memory}
@@ -8,7 +8,7 @@ use Rattle.hall.specs.declared.routes.Route.{Route}
 use Rattle.hall.specs.Format.{task_at, task_bytes, task_fault, way_at, way_bytes, way_fault}
 use Rattle.hall.specs.Halls.{task_of}
 use Rattle.hall.specs.Routes.{places_of}
-use Rattle.hall.specs.Tasks.{Task, Sized, Fit, Fitting}
+use Rattle.hall.specs.Tasks.{Sized, Fit, Fitting}
 
 -- a sound shape of numbers from -m to m
 pub record Drawn (m : ℕ) (s : Shape) : Type 0 where

@@ -1,6 +1,6 @@
 -- What is asked of the planner, and which tasks are taken. Assumes nothing: these are definitions.
 use Rattle.std.specs.Prelude.{ℕ, ◌-◌, ◌^◌, ◌<◌, ◌≤◌, List, [], length, slice_index_or}
-use Rattle.algebra.specs.Hall.{Corner, Place, Shape, Hall, Proper, corner}
+use Rattle.algebra.specs.Hall.{Place, Shape, Hall, Proper, corner}
 use Rattle.algebra.specs.Near.{Near}
 
 -- to bring the load of a hall from the start to the goal

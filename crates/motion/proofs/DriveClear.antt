@@ -4,7 +4,7 @@ use Rattle.std.proofs.lemmas.Bool.{ne_eqb}
 use Rattle.algebra.specs.Hall.{Place, Hall, Straight, Way}
 use Rattle.algebra.specs.Forms.{Same}
 use Rattle.algebra.proofs.Forms.{same_place}
-use Rattle.motion.specs.Driving.{place, Drives, Right, stretches, ahead, Collides, DrivesIfClear}
+use Rattle.motion.specs.Driving.{place, Right, stretches, ahead, Collides, DrivesIfClear}
 use Rattle.motion.proofs.DriveStretches.{straight_from, straight_same, to_free}
 
 -- ---- the numbers of stretches

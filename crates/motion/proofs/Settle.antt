@@ -1,14 +1,14 @@
 -- A stretch against a shape: the sides' values at a place of it are forms in the parts gone and to go. Assumes nothing.
-use Rattle.std.proofs.Common.{◌≡◌, ℕ, ◌+◌, ◌*◌, ◌<◌, ◌⊎◌, [], ◌∷◌, length, ℤ, pos, negsuc, ◌+ℤ◌, ◌*ℤ◌, ◌≤ℤ◌, ◌<ℤ◌, refl, ap, ◌∙◌, inl, inr, mul-pos, arith}
+use Rattle.std.proofs.Common.{◌≡◌, ℕ, ◌*◌, ◌<◌, ◌⊎◌, [], ◌∷◌, length, ℤ, pos, negsuc, ◌+ℤ◌, ◌*ℤ◌, ◌≤ℤ◌, ◌<ℤ◌, refl, ◌∙◌, inl, inr, mul-pos, arith}
 use borrow.Author.Differences.{ints}
-use Rattle.algebra.specs.Hall.{Place, Shape, Inside, corner, next, side, edge, between}
-use Rattle.algebra.specs.Forms.{line, value}
+use Rattle.algebra.specs.Hall.{Place, Shape, Inside, corner, next, edge, between}
+use Rattle.algebra.specs.Forms.{line}
 use Rattle.algebra.proofs.Polynomial.{forms, by_ring}
-use Rattle.algebra.proofs.Order.{signs, pos>0, pos≥0, product>0}
+use Rattle.algebra.proofs.Order.{signs, pos≥0}
 use Rattle.algebra.proofs.Forms.{side_is_form, interpolation}
 use Rattle.algebra.proofs.Places.{edge_along}
-use Rattle.motion.specs.Stretch.{Enters, Passes, Outside, Parted, Settled, StretchSettled}
-use Rattle.motion.specs.Ends.{Nowhere, Late, Apart}
+use Rattle.motion.specs.Stretch.{Enters, Passes, Outside, Parted, StretchSettled}
+use Rattle.motion.specs.Ends.{Nowhere, Apart}
 use Rattle.motion.proofs.Wedges.{on, Wedge, Outcome, outcome, never_both}
 
 -- a side's value on a stretch, from those at its ends

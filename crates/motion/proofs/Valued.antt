@@ -1,5 +1,5 @@
 -- The values of a shape's sides at the two ends of a stretch, as the code finds them. Assumes nothing.
-use Rattle.std.proofs.Common.{◌≡◌, ℕ, ◌+◌, ◌-◌, ◌^◌, ◌<◌, ◌≤◌, Bool, true, false, ◌≢◌, ◌⊎◌, List, length, take, set, ℤ, ◌*ℤ◌, ◌≤ℤ◌, ◌<ℤ◌, Decides, Ordering, Less, Equal, Greater, sym, refl, ap, ◌∙◌, subst, ap₂, inl, inr, arith, to_z, of_z, below_more}
+use Rattle.std.proofs.Common.{◌≡◌, ℕ, ◌+◌, ◌-◌, ◌^◌, ◌<◌, ◌≤◌, ◌≢◌, ◌⊎◌, List, length, take, set, ℤ, ◌≤ℤ◌, ◌<ℤ◌, Decides, Ordering, Less, Equal, Greater, sym, refl, ap, ◌∙◌, subst, ap₂, inl, inr, arith, to_z, of_z, below_more}
 use mir.Syntax.{w128}
 use borrow.Author.Differences.{ints}
 use Rattle.std.specs.Ordering.{MatchOrdering, is_le}
@@ -9,7 +9,7 @@ use Rattle.algebra.specs.Hall.{Corner, Place, Shape, corner, next, side, edge}
 use Rattle.algebra.specs.Near.{Near}
 use Rattle.exact.proofs.Bounds.{kept}
 use Rattle.motion.specs.declared.stretches.Ends.{Ends}
-use Rattle.motion.specs.Ends.{Nowhere, Apart, EndsNear, EndsOf, AllNear, ends_at, flat, SomeNowhere, SomeApart}
+use Rattle.motion.specs.Ends.{EndsOf, AllNear, ends_at, flat, SomeNowhere, SomeApart}
 use Rattle.motion.specs.Stretch.{Enters, Passes, Outside, Parted}
 use Rattle.motion.proofs.Settle.{stretch_settled}
 

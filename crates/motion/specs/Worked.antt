@@ -1,6 +1,6 @@
 -- Halls worked out by hand: a load of two by two in a hall of 20 by 10. Assumes nothing: these are definitions and statements, proved in proofs/.
 use Rattle.std.specs.Prelude.{List, [], ◌∷◌, ℤ, pos, negsuc}
-use Rattle.algebra.specs.Hall.{Corner, Place, Shape, Hall, Way}
+use Rattle.algebra.specs.Hall.{Place, Shape, Hall, Way}
 
 -- a box by its left, lower, right and upper ends
 abbrev pub box : ℤ → ℤ → ℤ → ℤ → Shape

@@ -4,7 +4,7 @@ use borrow.Author.Differences.{ints}
 use Rattle.std.proofs.lemmas.List.{get_or-map, get_or_push, get_or_append_left, length_push}
 use Rattle.std.proofs.lemmas.Bool.{cases_eq, and_parts, and_from}
 use Rattle.std.specs.List.{list_all}
-use Rattle.algebra.specs.Hall.{Place, Shape, Hall, Sound, corner}
+use Rattle.algebra.specs.Hall.{Shape, Sound, corner}
 use Rattle.algebra.specs.Near.{Near}
 use Rattle.hall.specs.declared.shapes.Shape.{Shape as Shaped}
 use Rattle.hall.specs.Outlines.{within}
@@ -13,7 +13,7 @@ use Rattle.hall.proofs.Drawings.{holds}
 use Rattle.hall.proofs.Faults.{all_at, all_from}
 use Rattle.hall.proofs.Kept.{true_from_holds}
 use Rattle.hall.proofs.Taken.{near_from_test, test_from_near}
-use Rattle.obstacle.specs.Freedom.{Apart, GrownTo, Clear, FreeExactly}
+use Rattle.obstacle.specs.Freedom.{Apart, GrownTo, FreeExactly}
 use Rattle.obstacle.specs.Growth.{Grown}
 
 pub free_exactly : FreeExactly

@@ -1,5 +1,5 @@
 -- The order of corners from below, and on a level from the left. Assumes nothing.
-use Rattle.std.proofs.Common.{◌≡◌, ℕ, ◌+◌, ◌<◌, ◌⊎◌, length, ℤ, pos, ◌-ℤ◌, ◌≤ℤ◌, ◌<ℤ◌, sym, refl, subst, inl, inr, ⊎_elim, arith, below_more}
+use Rattle.std.proofs.Common.{◌≡◌, ℕ, ◌+◌, ◌<◌, ◌⊎◌, length, pos, ◌-ℤ◌, ◌≤ℤ◌, ◌<ℤ◌, sym, refl, subst, inl, inr, arith, below_more}
 use borrow.Author.Differences.{ints}
 use Rattle.algebra.specs.Hall.{Corner, Shape, corner}
 use Rattle.obstacle.specs.Growth.{minus}

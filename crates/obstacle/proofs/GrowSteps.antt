@@ -1,5 +1,5 @@
 -- The sides that a step of the walk compares point somewhere, and a step of the code is a step of the walk. Assumes nothing.
-use Rattle.std.proofs.Common.{◌≡◌, ℕ, suc, ◌+◌, ◌<◌, ◌⊎◌, length, ℤ, pos, ◌-ℤ◌, Ordering, Less, Equal, Greater, sym, ap, ◌∙◌, subst, ap₂, inl, inr, ⊎_elim, arith}
+use Rattle.std.proofs.Common.{◌≡◌, ℕ, suc, ◌+◌, ◌<◌, ◌⊎◌, length, ◌-ℤ◌, Ordering, Less, Equal, Greater, sym, ap, ◌∙◌, subst, ap₂, inl, inr, ⊎_elim, arith}
 use borrow.Author.Differences.{ints}
 use Rattle.std.specs.Ordering.{MatchOrdering}
 use Rattle.algebra.specs.Hall.{Corner, Shape, Sound, corner, next}
@@ -7,7 +7,7 @@ use Rattle.obstacle.specs.declared.growing.Pair.{Pair}
 use Rattle.obstacle.specs.declared.growing.Walk.{Walk}
 use Rattle.obstacle.specs.Growing.{Points, On, Paired, Reached, NextSide, StepsOn}
 use Rattle.obstacle.specs.Growth.{minus, way}
-use Rattle.obstacle.specs.Merging.{Up, Down, Before, Alike, Step, of_thing, of_load, of_both, onward, thing_way, load_way}
+use Rattle.obstacle.specs.Merging.{Before, Alike, Step, of_thing, of_load, of_both, onward, thing_way, load_way}
 use Rattle.obstacle.proofs.Signs.{by_sign}
 use Rattle.obstacle.proofs.Strict.{corner_same, ends_apart}
 

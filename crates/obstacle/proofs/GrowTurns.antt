@@ -1,5 +1,5 @@
 -- Directions, in the order in which one turns left from the one to the right. Assumes nothing.
-use Rattle.std.proofs.Common.{◌≡◌, Bool, true, false, ◌⊎◌, [], ◌∷◌, ℤ, pos, neg_ℤ, ◌<ℤ◌, Decides, Ordering, Less, Equal, Greater, refl, inl, inr, arith}
+use Rattle.std.proofs.Common.{◌≡◌, Bool, true, false, ◌⊎◌, [], ◌∷◌, pos, neg_ℤ, ◌<ℤ◌, Decides, Ordering, Less, Equal, Greater, refl, inl, inr, arith}
 use mathlib.Core.Bool.{beq}
 use borrow.Author.Differences.{ints}
 use Rattle.std.specs.Ordering.{MatchOrdering}

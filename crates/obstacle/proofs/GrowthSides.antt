@@ -1,11 +1,11 @@
 -- The sides of a grown shape, parted into the thing's share and the load's: what grows is sound. Assumes nothing.
-use Rattle.std.proofs.Common.{◌≡◌, ℕ, ◌<◌, [], ◌∷◌, length, ℤ, pos, ◌-ℤ◌, ◌*ℤ◌, neg_ℤ, ◌≤ℤ◌, ◌<ℤ◌, refl, ap, arith}
+use Rattle.std.proofs.Common.{◌≡◌, ℕ, ◌<◌, [], length, ℤ, pos, ◌-ℤ◌, ◌*ℤ◌, neg_ℤ, ◌≤ℤ◌, ◌<ℤ◌, refl, ap, arith}
 use borrow.Author.Differences.{ints}
 use Rattle.algebra.specs.Hall.{Corner, Place, Shape, Sound, Covers, at, side, corner, next, edge, plus}
 use Rattle.algebra.specs.Forms.{Form, value}
 use Rattle.algebra.proofs.Polynomial.{forms, by_ring}
 use Rattle.algebra.proofs.Forms.{of_corner, of_place}
-use Rattle.obstacle.specs.Growth.{GrowsFrom, minus, turn, way}
+use Rattle.obstacle.specs.Growth.{GrowsFrom, minus, turn}
 
 -- the form of the line through c that goes along d: above 0 to the left of it
 unfoldable pub through : Corner → Corner → Form

@@ -1,5 +1,5 @@
 -- Vectors that point up and down, in the order in which one turns left: which turn follows from which. Assumes nothing.
-use Rattle.std.proofs.Common.{◌≡◌, ◌⊎◌, [], ℤ, pos, ◌+ℤ◌, ◌*ℤ◌, neg_ℤ, ◌≤ℤ◌, ◌<ℤ◌, refl, inl, inr, arith}
+use Rattle.std.proofs.Common.{◌≡◌, ◌⊎◌, [], pos, ◌+ℤ◌, ◌*ℤ◌, neg_ℤ, ◌≤ℤ◌, ◌<ℤ◌, refl, inl, inr, arith}
 use borrow.Author.Differences.{ints}
 use Rattle.algebra.specs.Hall.{Corner}
 use Rattle.algebra.proofs.Polynomial.{forms, by_ring}

@@ -1,5 +1,5 @@
 -- The sides of two rounds merged by direction: each step keeps to the left of both, and turns left from the last. Assumes nothing.
-use Rattle.std.proofs.Common.{◌≡◌, ℕ, suc, ◌+◌, ◌<◌, ◌≤◌, [], ℤ, pos, ◌+ℤ◌, ◌<ℤ◌, sym, refl, ◌∙◌, subst, arith}
+use Rattle.std.proofs.Common.{◌≡◌, ℕ, suc, ◌+◌, ◌<◌, ◌≤◌, [], pos, ◌+ℤ◌, ◌<ℤ◌, sym, refl, ◌∙◌, subst, arith}
 use borrow.Author.Differences.{ints}
 use Rattle.algebra.specs.Hall.{Corner}
 use Rattle.algebra.proofs.Polynomial.{forms, by_ring}

@@ -1,7 +1,7 @@
 -- The theory of sound shapes: what the definitions of inside, covered and sound come to. Assumes nothing: these are definitions and statements, the
 -- latter proved in proofs/ and named by the contracts of src/convex.rt.
-use Rattle.std.specs.Prelude.{◌≡◌, ℕ, suc, ◌+◌, ◌<◌, ◌≤◌, ◌⊎◌, length, ℤ, pos, ◌*ℤ◌, ◌≤ℤ◌, ◌<ℤ◌, ◌≢◌}
-use Rattle.algebra.specs.Hall.{Corner, Place, Shape, Sound, Inside, Covers, at, side, corner, next, edge, between}
+use Rattle.std.specs.Prelude.{◌≡◌, ℕ, ◌+◌, ◌<◌, length, pos, ◌≤ℤ◌, ◌<ℤ◌, ◌≢◌}
+use Rattle.algebra.specs.Hall.{Place, Shape, Sound, Inside, Covers, at, side, corner, next, edge, between}
 use Rattle.algebra.specs.Forms.{Form, Same, value}
 
 -- a corner that is no end of a side lies to the left of it; so each corner of a sound shape comes once

@@ -1,6 +1,6 @@
 -- How the corners of a grown shape are found: both shapes are walked round from their extreme corners, and their sides are merged by direction.
 -- Assumes nothing: these are definitions and a statement, proved in proofs/.
-use Rattle.std.specs.Prelude.{◌≡◌, ℕ, zero, suc, ◌+◌, ◌<◌, ◌≤◌, ◌⊎◌, length, ℤ, pos, ◌<ℤ◌}
+use Rattle.std.specs.Prelude.{◌≡◌, ℕ, zero, suc, ◌+◌, ◌<◌, ◌≤◌, ◌⊎◌, length, pos, ◌<ℤ◌}
 use Rattle.algebra.specs.Hall.{Corner, Shape, Sound, corner, next}
 use Rattle.obstacle.specs.Growth.{minus, turn, GrowsFrom}
 

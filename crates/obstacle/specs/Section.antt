@@ -1,6 +1,6 @@
 -- The cross_section of a sound shape by an upright line. Assumes nothing: these are definitions and a statement, proved in proofs/.
-use Rattle.std.specs.Prelude.{◌≡◌, ℕ, ◌<◌, length, ℤ, pos, ◌*ℤ◌, ◌≤ℤ◌, ◌<ℤ◌}
-use Rattle.algebra.specs.Hall.{Corner, Place, Shape, Sound, Inside, corner, next, edge}
+use Rattle.std.specs.Prelude.{ℕ, ◌<◌, length, pos, ◌*ℤ◌, ◌≤ℤ◌, ◌<ℤ◌}
+use Rattle.algebra.specs.Hall.{Place, Shape, Sound, Inside, corner, next, edge}
 
 -- corner i is strictly to the left, or to the right, of the upright line through p
 abbrev pub LeftOf : Shape → ℕ → Place → Type 0

@@ -1,5 +1,5 @@
 -- Fractions in lowest terms. Assumes nothing: these are definitions.
-use Rattle.std.specs.Prelude.{◌≡◌, ℕ, zero, suc, ◌*◌, ◌/◌, ◌%◌, ◌<◌, ◌≤◌, cond, ◌&&◌, ℤ, pos, ◌*ℤ◌, ◌==◌, int_div, unsigned_abs}
+use Rattle.std.specs.Prelude.{◌≡◌, ℕ, zero, suc, ◌/◌, ◌%◌, ◌<◌, ◌≤◌, cond, ◌&&◌, ℤ, pos, ◌*ℤ◌, ◌==◌, int_div, unsigned_abs}
 use Rattle.std.specs.Int.{◌∣◌}
 
 -- g is the greatest common divisor of a and b: it divides both (k ∣ n says that k times some number is n), and what divides both divides g

@@ -2,7 +2,6 @@
 use Rattle.std.specs.Prelude.{◌≡◌, ℕ, ◌⊎◌, List, [], ◌∷◌, map, Some, None, vec_items}
 use Rattle.algebra.specs.Hall.{Place, Free, Straight, Way}
 use Rattle.exact.specs.Points.{place_of}
-use Rattle.hall.specs.declared.refusals.Refusal.{Refusal}
 use Rattle.hall.specs.declared.refusals.Refusal.TheVariants.{Memory}
 use Rattle.hall.specs.Format.{task_fault, task_at}
 use Rattle.hall.specs.Tasks.{Task}

@@ -1,4 +1,4 @@
-use Rattle.std.proofs.Common.{◌≡◌, ℕ, ◌∙◌}
+use Rattle.std.proofs.Common.{◌∙◌}
 use Rattle.hall.proofs.Faults.{some_then, later, tells_second, exits}
 use Rattle.hall.proofs.Layouts.{task_fault_at}
 use Rattle.hall.proofs.audit.check_task.Goals as goal

@@ -1,4 +1,4 @@
-use Rattle.std.proofs.Common.{◌≡◌, ℕ, ◌<◌, sym, ap, ◌∙◌, arith}
+use Rattle.std.proofs.Common.{◌≡◌, ◌<◌, sym, ap, ◌∙◌, arith}
 use Rattle.hall.specs.Bytes.{byte}
 use Rattle.hall.specs.Format.{past, shape_fault}
 use Rattle.hall.proofs.Faults.{found, below_step, exits}

@@ -1,4 +1,4 @@
-use Rattle.std.proofs.Common.{◌≡◌, ℕ, ◌+◌, ◌*◌, ◌<◌, ◌≢◌, length, ℤ, sym, ap, ◌∙◌, ap₂, arith, w64, rules, below_more}
+use Rattle.std.proofs.Common.{◌<◌, ◌≢◌, length, ℤ, ap, ◌∙◌, ap₂, arith, w64, rules, below_more}
 use Rattle.std.proofs.lemmas.List.{get_or-set_same, get_or-set_other, length-set}
 use Rattle.std.proofs.lemmas.Int.{to_z-of_z}
 use Rattle.algebra.specs.Hall as hall

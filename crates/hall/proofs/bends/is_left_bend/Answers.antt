@@ -1,4 +1,4 @@
-use Rattle.std.proofs.Common.{◌≡◌, ℕ, length, ℤ, pos, sym, ap, ◌∙◌, w64, rules}
+use Rattle.std.proofs.Common.{◌≡◌, ℕ, length, pos, sym, ap, ◌∙◌, w64, rules}
 use lib.Signed.{lt_z}
 use Rattle.std.proofs.lemmas.Int.{to_z-of_z}
 use Rattle.algebra.specs.Hall.{edge, at, corner, next}

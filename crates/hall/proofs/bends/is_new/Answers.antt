@@ -1,4 +1,4 @@
-use Rattle.std.proofs.Common.{◌≡◌, Bool, false, not, ◌||◌, eqb, sym, ap, ◌∙◌, ap₂, arith}
+use Rattle.std.proofs.Common.{◌≡◌, Bool, false, not, ◌||◌, eqb, sym, ◌∙◌, ap₂}
 use Rattle.std.proofs.lemmas.Bool.{ne_eqb}
 use Rattle.hall.specs.Format.{same_corner}
 use Rattle.hall.proofs.Outlines.{corner_outline}

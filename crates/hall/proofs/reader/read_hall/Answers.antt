@@ -1,4 +1,4 @@
-use Rattle.std.proofs.Common.{◌≡◌, ℕ, ◌+◌, ◌^◌, ◌<◌, List, [], map, length, get_or, sym, ap, ◌∙◌, subst, ap₂, arith, rules}
+use Rattle.std.proofs.Common.{◌≡◌, ℕ, ◌+◌, ◌^◌, ◌<◌, List, [], length, get_or, sym, ap, ◌∙◌, subst, ap₂, arith}
 use Rattle.std.specs.BTreeMap.{values}
 use Rattle.algebra.specs.Hall.{Shape}
 use Rattle.hall.specs.declared.audit.Layout.{Layout}
@@ -6,10 +6,9 @@ use Rattle.hall.specs.Format.{shape_at, shapes_at, past, place_at, count_from, t
 use Rattle.hall.specs.Halls.{task_of}
 use Rattle.hall.specs.Outlines.{within}
 use Rattle.hall.specs.Reading.{Drawn}
-use Rattle.hall.specs.Shapes.{shape_of}
-use Rattle.hall.specs.Tasks.{Task, Sized, Bounded, Fit}
+use Rattle.hall.specs.Tasks.{Sized, Bounded, Fit}
 use Rattle.hall.proofs.Drawings.{holds, within_from_sized, bounded_from}
-use Rattle.hall.proofs.Readings.{bytes_from_fits, refuses, fit, load_sized, load_drawn, thing_sized, thing_drawn, few_things, all_within_from, same_task}
+use Rattle.hall.proofs.Readings.{bytes_from_fits, refuses, fit, load_sized, load_drawn, thing_drawn, few_things, all_within_from, same_task}
 use Rattle.hall.proofs.Roundtrip.{task_reads_back, task_writes_back}
 use Rattle.hall.proofs.reader.read_hall.Goals as goal
 

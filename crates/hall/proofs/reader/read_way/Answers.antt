@@ -1,8 +1,7 @@
-use Rattle.std.proofs.Common.{◌≡◌, ℕ, ◌-◌, ◌^◌, ◌<◌, List, map, length, get_or, vec_items, vec_len, sym, ap, ◌∙◌, subst, arith, rules}
+use Rattle.std.proofs.Common.{ℕ, ◌-◌, ◌^◌, ◌<◌, List, length, get_or, sym, ap, ◌∙◌, subst, arith}
 use Rattle.std.proofs.lemmas.List.{length-map}
 use Rattle.algebra.specs.Hall.{Place}
 use Rattle.exact.specs.Points.{place_of}
-use Rattle.hall.specs.Bytes.{little}
 use Rattle.hall.specs.Format.{places_at, way_at, way_bytes, way_fault}
 use Rattle.hall.specs.Routes.{places_of}
 use Rattle.hall.specs.Tasks.{Bounded, Fitting}

@@ -1,5 +1,5 @@
-use Rattle.std.proofs.Common.{◌≡◌, ◌+◌, ◌*◌, ◌≤◌, map, length}
-use Rattle.std.specs.BTreeMap.{values, btree_map_len}
+use Rattle.std.proofs.Common.{◌≡◌, ◌+◌, ◌*◌, ◌≤◌, map}
+use Rattle.std.specs.BTreeMap.{values}
 use Rattle.hall.specs.Format.{past, shapes_at}
 use Rattle.hall.specs.Shapes.{shape_of}
 use Rattle.hall.proofs.Numbered.{Below}

@@ -1,4 +1,4 @@
-use Rattle.std.proofs.Common.{◌≡◌, ℕ, ◌-◌, ◌^◌, ◌<◌, List, map, length, vec_items, sym, subst, arith, rules}
+use Rattle.std.proofs.Common.{ℕ, ◌-◌, ◌^◌, ◌<◌, List, map, length, vec_items, sym, subst, arith}
 use Rattle.std.proofs.lemmas.List.{length-map}
 use Rattle.exact.specs.declared.points.Place.{Place}
 use Rattle.exact.specs.Points.{place_of}

@@ -1,4 +1,4 @@
-use Rattle.std.proofs.Common.{◌≡◌, ℕ, ◌-◌, ◌^◌, ◌<◌, map, length, sym, refl, ap, subst, arith, below_more}
+use Rattle.std.proofs.Common.{ℕ, ◌-◌, ◌^◌, ◌<◌, map, length, sym, refl, ap, subst, arith, below_more}
 use Rattle.std.proofs.lemmas.List.{length-map}
 use Rattle.algebra.specs.Hall.{Place}
 use Rattle.exact.specs.Points.{place_of}

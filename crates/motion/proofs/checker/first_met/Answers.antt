@@ -1,4 +1,4 @@
-use Rattle.std.proofs.Common.{◌≡◌, ◌<◌, map, length, sym, refl, subst, arith, rules, below_more}
+use Rattle.std.proofs.Common.{◌<◌, length, sym, subst, arith, rules, below_more}
 use Rattle.std.proofs.lemmas.List.{length-map}
 use Rattle.std.proofs.lemmas.Bool.Decides.{not_from_Decides}
 use Rattle.algebra.specs.Hall.{Shape}

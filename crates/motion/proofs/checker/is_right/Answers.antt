@@ -6,7 +6,7 @@ use Rattle.algebra.specs.Hall.{Place, Hall, Within}
 use Rattle.algebra.specs.Forms.{Same}
 use Rattle.exact.specs.declared.points.Place as code
 use Rattle.exact.specs.Points.{place_of}
-use Rattle.motion.specs.Driving.{place, Right}
+use Rattle.motion.specs.Driving.{Right}
 use Rattle.motion.proofs.Judging.{nowhere, place_read}
 use Rattle.motion.proofs.checker.is_right.Goals as goal
 

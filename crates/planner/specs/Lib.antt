@@ -1,5 +1,0 @@
-pub mod Scenes
-pub mod Visits
-pub mod Searching
-pub mod Touching
-pub mod Descending
