@@ -1,13 +1,13 @@
 -- What holds of the format as a whole: writing and reading undo each other. Assumes nothing: these are statements, proved in proofs/.
 use Rattle.std.specs.Prelude.{◌≡◌, ℕ, ◌<◌, true, List, None}
-use Rattle.std.specs.List.{AllByRecursion as All}
+use Rattle.std.specs.List.{AllByRecursion}
 use Rattle.algebra.specs.Hall.{Place, Shape, Sound}
 use Rattle.hall.specs.Tasks.{Task, Fit, Fitting}
 use Rattle.hall.specs.Format.{task_bytes, task_at, task_fault, way_bytes, way_at, way_fault, sound}
 
 -- a list of bytes
 abbrev pub Bytes : List ℕ → Type 0
-Bytes bs = All (λ b. b < 256) bs
+Bytes bs = AllByRecursion (λ b. b < 256) bs
 
 -- a task that fits, once written, is taken, and read as the same task
 abbrev pub TaskReadsBack : Type 0
