@@ -1,22 +1,31 @@
-// check HALL WAY: reads a hall and a way from files, and prints whether the way can be driven.
+// check_way HALL WAY: reads a hall and a way from files, and prints whether the way can be driven.
 #![tactic(auto)]
 
 use anyhow::anyhow;
 use std::env;
+use std::process::ExitCode;
 use text::console::{conclude, read_file};
 use text::replies::check_reply;
 
-fn main(rt: HostRuntime) -> anyhow::Result<()> {
-    let mut words = env::args(&rt)?;
+fn run(rt: &HostRuntime) -> anyhow::Result<()> {
+    let mut words = env::args(rt)?;
     let _ = words.next();
     let (Some(hall), Some(way)) = (words.next(), words.next()) else {
         eprintln!(rt; "check takes two files: a hall and a way")?;
         return Err(anyhow!("two files are wanted"));
     };
-    let hall_bytes = read_file(&rt, hall.as_str())?;
-    let way_bytes = read_file(&rt, way.as_str())?;
+    let hall_bytes = read_file(rt, hall.as_str())?;
+    let way_bytes = read_file(rt, way.as_str())?;
     conclude(
-        &rt,
+        rt,
         check_reply(rt.alloc(), hall_bytes.as_slice(), way_bytes.as_slice()),
     )
+}
+
+// What is wrong was told where it was met, so an error is only a status here.
+fn main(rt: HostRuntime) -> ExitCode {
+    match run(&rt) {
+        Ok(()) => ExitCode::SUCCESS,
+        Err(_) => ExitCode::FAILURE,
+    }
 }

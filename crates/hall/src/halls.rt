@@ -1,6 +1,8 @@
 // A hall with a load to be brought from its start to its goal.
 ghost use Rattle.std.specs.Prelude.{◌^◌, ◌≤◌, T};
-ghost use Rattle.std.specs.BTreeMap.{values, btree_map_len};
+ghost use Rattle.std.specs.BTreeMap.{keys, values, btree_map_len, IsOrdered};
+ghost use Rattle.std.specs.Ordering.{nat_cmp};
+ghost use Rattle.std.specs.List.Sorted.{IsStrictlySortedBy-prop};
 ghost use Rattle.hall.specs.Outlines.{bounded};
 ghost use Rattle.hall.specs.Shapes.{drawn_within, all_within};
 
@@ -19,6 +21,7 @@ pub struct Hall {
     pub(crate) goal: Place,
     ghost walls: { (wide ≤ 1000) × (high ≤ 1000) },
     ghost few: { btree_map_len things ≤ 40 },
+    ghost lawful: { IsOrdered nat_cmp things } by { IsStrictlySortedBy-prop nat_cmp (keys things) },
     ghost near: { T (drawn_within 200 load) × T (all_within 1000 (values things)) },
     ghost ends: { T (bounded (2 ^ 20) start) × T (bounded (2 ^ 20) goal) },
 }

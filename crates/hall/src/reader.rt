@@ -1,6 +1,7 @@
 // Halls and ways from their bytes.
 ghost use Rattle.std.specs.Prelude.{◌≡◌, ℕ, ◌+◌, ◌*◌, ◌^◌, ◌<◌, ◌≤◌, map, length, MatchResult};
-ghost use Rattle.std.specs.BTreeMap.{values, btree_map_len};
+ghost use Rattle.std.specs.BTreeMap.{values, btree_map_len, IsOrdered};
+ghost use Rattle.std.specs.Ordering.{nat_cmp};
 ghost use Rattle.exact.specs.Points.{place_of};
 ghost use Rattle.hall.specs.Format.{shape_at, shapes_at, place_at, places_at, past};
 ghost use Rattle.hall.specs.Reading.{Drawn, TaskRead, WayRead};
@@ -49,7 +50,7 @@ fn things_at(
 ) -> Result<BTreeMap<u8, Shape<8>>, Refusal>
     requires at { at < 2 ^ 20 }
     requires drawn { (k : ℕ) → k < n → Drawn 2047 (shape_at bytes.now (past k bytes.now at)) }
-    ensures { MatchResult result (λ m. (map shape_of (values m) ≡ shapes_at n bytes.now at) × (btree_map_len m ≡ n)) (λ e. e ≡ Refusal.Memory) }
+    ensures { MatchResult result (λ m. (map shape_of (values m) ≡ shapes_at n bytes.now at) × (btree_map_len m ≡ n) × IsOrdered nat_cmp m) (λ e. e ≡ Refusal.Memory) }
 {
     let mut things = BTreeMap::new(heap);
     let mut from = at;

@@ -31,7 +31,7 @@ before x f (suc k) = f k
 
 module _ (load thing : Shape) (a b : ℕ) where
   -- one step
-  record Goes_on (i j : ℕ) : Type 0 where
+  record GoesOn (i j : ℕ) : Type 0 where
     pub to_i : ℕ
     pub to_j : ℕ
     pub step : Step load thing a b i j to_i to_j
@@ -51,7 +51,7 @@ module _ (load thing : Shape) (a b : ℕ) where
   at_end : (u v : ℕ) → u ≡ length thing → v ≡ length load → Run u v
   at_end u v e f = record { n = 0; i = λ _. u; j = λ _. v; start = (refl, refl); finish = (e, f); steps = λ k h. absurd (omega arith) }
 
-  module _ (u v : ℕ) (s : Goes_on u v) (r : Run s.to_i s.to_j) where
+  module _ (u v : ℕ) (s : GoesOn u v) (r : Run s.to_i s.to_j) where
     steps_on : (k : ℕ) → k < suc r.n → Step load thing a b (before u r.i k) (before v r.j k) (r.i k) (r.j k)
     steps_on zero h =
         subst (λ (y : ℕ). Step load thing a b u v (r.i 0) y) (sym r.start.1) (subst (λ (x : ℕ). Step load thing a b u v x s.to_j) (sym r.start.0) s.step)
@@ -79,16 +79,16 @@ module _ (load thing : Shape) (a b : ℕ) where
         apart_half (corner load k) (corner load (next (length load) k)) (λ e. ends_apart load sl k (onward_below (length load) b j hb) (sym e))
 
     module _ (i j : ℕ) (hi : i ≤ length thing) (hj : j ≤ length load) where
-      by_thing : i < length thing → (j ≡ length load) ⊎ Before (thing_way load thing a b i) (load_way load thing a b j) → Goes_on i j
+      by_thing : i < length thing → (j ≡ length load) ⊎ Before (thing_way load thing a b i) (load_way load thing a b j) → GoesOn i j
       by_thing h k = record { to_i = suc i; to_j = j; step = of_thing h k; i_bound = omega arith; j_bound = hj; more = omega arith }
 
-      by_load : j < length load → (i ≡ length thing) ⊎ Before (load_way load thing a b j) (thing_way load thing a b i) → Goes_on i j
+      by_load : j < length load → (i ≡ length thing) ⊎ Before (load_way load thing a b j) (thing_way load thing a b i) → GoesOn i j
       by_load h k = record { to_i = i; to_j = suc j; step = of_load h k; i_bound = hi; j_bound = omega arith; more = omega arith }
 
-      by_both : i < length thing → j < length load → Alike (thing_way load thing a b i) (load_way load thing a b j) → Goes_on i j
+      by_both : i < length thing → j < length load → Alike (thing_way load thing a b i) (load_way load thing a b j) → GoesOn i j
       by_both h k l = record { to_i = suc i; to_j = suc j; step = of_both h k l; i_bound = omega arith; j_bound = omega arith; more = omega arith }
 
-      goes_on : i + j < length thing + length load → Goes_on i j
+      goes_on : i + j < length thing + length load → GoesOn i j
       goes_on h =
           ⊎_elim (λ e. by_load (omega arith) (inl e))
           (λ ni. ⊎_elim (λ e. by_thing (omega arith) (inl e))

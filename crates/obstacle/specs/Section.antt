@@ -1,4 +1,4 @@
--- The cross_section of a sound shape by an upright line. Assumes nothing: these are definitions and a statement, proved in proofs/.
+-- The cross-section of a sound shape by an upright line. Assumes nothing: these are definitions and a statement, proved in proofs/.
 use Rattle.std.specs.Prelude.{ℕ, ◌<◌, length, pos, ◌*ℤ◌, ◌≤ℤ◌, ◌<ℤ◌}
 use Rattle.algebra.specs.Hall.{Place, Shape, Sound, Inside, corner, next, edge}
 

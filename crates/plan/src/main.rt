@@ -3,6 +3,7 @@
 
 use std::env;
 use std::io::Read;
+use std::process::ExitCode;
 use text::console::{conclude, read_file};
 use text::replies::plan_reply;
 
@@ -19,7 +20,15 @@ fn input(rt: &HostRuntime) -> anyhow::Result<Vec<u8>> {
     }
 }
 
-fn main(rt: HostRuntime) -> anyhow::Result<()> {
-    let bytes = input(&rt)?;
-    conclude(&rt, plan_reply(rt.alloc(), bytes.as_slice()))
+fn run(rt: &HostRuntime) -> anyhow::Result<()> {
+    let bytes = input(rt)?;
+    conclude(rt, plan_reply(rt.alloc(), bytes.as_slice()))
+}
+
+// What is wrong was told where it was met, so an error is only a status here.
+fn main(rt: HostRuntime) -> ExitCode {
+    match run(&rt) {
+        Ok(()) => ExitCode::SUCCESS,
+        Err(_) => ExitCode::FAILURE,
+    }
 }

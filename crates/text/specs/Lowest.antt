@@ -23,7 +23,7 @@ common (suc k) a b = cond (a % suc k == 0 && b % suc k == 0) (suc k) (common k a
 abbrev pub shared : ℤ → ℕ → ℕ
 shared x w = common w (unsigned_abs x) w
 
--- the numerator and the denominator of x / w in lowest terms (quotZ divides integers)
+-- the numerator and the denominator of x / w in lowest terms (int_div divides integers)
 unfoldable pub top : ℤ → ℕ → ℤ
 top x w = int_div x (pos (shared x w))
 

@@ -19,14 +19,14 @@ Planned bs answer.Accepted = ⊥
 abbrev pub Verdict : List ℕ → List ℕ → Result (Unit {0}) Refusal → Type 0
 Verdict hs ws r = Judged (task_at hs).hall (task_at hs).start (task_at hs).goal (way_at ws) r
 
--- why `check` refuses: a fault of the hall comes first, then one of the way, then what the checker finds; or memory is wanting
+-- why `check_way` refuses: a fault of the hall comes first, then one of the way, then what the checker finds; or memory is wanting
 pub data Refuses (hs ws : List ℕ) (e : Refusal) : Type 0 where
   by_hall : task_fault hs ≡ Some e → Refuses hs ws e
   by_way : task_fault hs ≡ None → way_fault ws ≡ Some e → Refuses hs ws e
   by_checker : task_fault hs ≡ None → way_fault ws ≡ None → Verdict hs ws (Err e) → Refuses hs ws e
   by_memory : task_fault hs ≡ None → e ≡ Memory → Refuses hs ws e
 
--- `check`: accepted is what can be driven
+-- `check_way`: accepted is what can be driven
 abbrev pub Checked : List ℕ → List ℕ → Answer → Type 0
 Checked hs ws (answer.Refused e) = Refuses hs ws e
 Checked hs ws answer.Accepted = (task_fault hs ≡ None) × (way_fault ws ≡ None) × Verdict hs ws (Ok tt)

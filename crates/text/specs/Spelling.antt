@@ -1,5 +1,5 @@
 -- What the programs print of an answer, byte for byte: lines of ASCII, each ended by a newline. Numbers are in decimal, by the library's `decimal`
--- and `signed`: with no zero in front, and a minus sign before a number below 0. Assumes nothing: these are definitions.
+-- and `signed_decimal`: with no zero in front, and a minus sign before a number below 0. Assumes nothing: these are definitions.
 use Rattle.std.specs.Prelude.{ℕ, List, [], ◌∷◌, ◌++◌, ℤ, codes, decimal}
 use Rattle.std.specs.Fmt.{signed_decimal}
 use Rattle.exact.specs.declared.points.Place.{Place}

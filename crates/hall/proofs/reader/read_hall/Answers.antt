@@ -60,6 +60,7 @@ invariant_of-result c =
     record {
       walls = (omega (arith, f.wide, c.u16_at.ensures), omega (arith, f.high, c.u16_at-2.ensures));
       few = omega (arith, m.1, g.things);
+      lawful = m.2;
       near = (
         holds (ap (within 200) c.shape_at.ensures ∙ within_from_sized 200 (shape_at bs 4) (load_sized bs e)),
         holds (all_within_from 1000 (values c.in_ok-things.things) (subst EachSized (sym ts) f.things)),

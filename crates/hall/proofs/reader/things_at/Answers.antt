@@ -27,15 +27,17 @@ loop-k-preserved c =
       omega (arith, past_more k bs at, e, c.byte_at.ensures),
       omega arith,
       rw entries (All-keys-insert_entry nat_cmp k v (λ q. q < k + 1) m.entries (λ i d h. omega (arith, inv.2 i d h)) (omega arith)),
+      c.insert.ensures.ordered,
       ap (λ es. map shape_of (values_of es)) entries
           ∙ (ap (map shape_of) (values_appended m.entries k v inv.2)
-          ∙ (map_push shape_of _ v ∙ (ap₂ (λ (ss : List Shape) (t : Shape). ss ++ t ∷ []) inv.3 s ∙ sym (shapes_at_more k bs at)))),
+          ∙ (map_push shape_of _ v ∙ (ap₂ (λ (ss : List Shape) (t : Shape). ss ++ t ∷ []) inv.4 s ∙ sym (shapes_at_more k bs at)))),
     )
 
 pub returns : goal.returns
 returns c =
     let e : c.loop-k.k ≡ c.args.n = omega arith in
-    let shown = c.loop-k.invariant.3 ∙ ap (λ (k : ℕ). shapes_at k c.args.bytes.now c.args.at) e in (
+    let shown = c.loop-k.invariant.4 ∙ ap (λ (k : ℕ). shapes_at k c.args.bytes.now c.args.at) e in (
       shown,
       omega (arith, e, ap length shown, length-map (values c.loop-k.things) shape_of, length-values_of c.loop-k.things.entries, length_shapes_at c.args.n c.args.bytes.now c.args.at),
+      c.loop-k.invariant.3,
     )

@@ -1,5 +1,6 @@
 use Rattle.std.proofs.Common.{◌≡◌, ◌+◌, ◌*◌, ◌≤◌, map}
-use Rattle.std.specs.BTreeMap.{values}
+use Rattle.std.specs.BTreeMap.{values, IsOrdered}
+use Rattle.std.specs.Ordering.{nat_cmp}
 use Rattle.hall.specs.Format.{past, shapes_at}
 use Rattle.hall.specs.Shapes.{shape_of}
 use Rattle.hall.proofs.Numbered.{Below}
@@ -9,4 +10,4 @@ use Rattle.hall.proofs.reader.things_at.Given as goal
 abbrev pub invariant-loop-k : goal.invariant-loop-k
 invariant-loop-k l =
     (l.from ≡ past l.k l.bytes l.at) × (l.from ≤ l.at + 1021 * l.k)
-    × Below l.k l.things.entries × (map shape_of (values l.things) ≡ shapes_at l.k l.bytes l.at)
+    × Below l.k l.things.entries × IsOrdered nat_cmp l.things × (map shape_of (values l.things) ≡ shapes_at l.k l.bytes l.at)
