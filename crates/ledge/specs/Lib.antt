@@ -1,0 +1,14 @@
+pub mod Heights
+pub mod Sides
+pub mod Surfaces
+pub mod Graph
+pub mod Shadows
+pub mod Runs
+pub mod Coverage
+pub mod Lines
+pub mod Landings
+pub mod Parts
+pub mod Contacts
+pub mod Lights
+pub mod Ledges
+pub mod Descents
