@@ -1,4 +1,4 @@
--- What the straight stretch from start to goal lets `plan` say of bytes. Assumes nothing: these are definitions.
+-- What the straight stretch from start to goal shows of bytes. Assumes nothing: these are definitions.
 use Rattle.std.specs.Prelude.{◌≡◌, ℕ, ◌⊎◌, List, [], ◌∷◌, map, Some, None, vec_items}
 use Rattle.algebra.specs.Hall.{Place, Free, Straight, Way}
 use Rattle.exact.specs.Points.{place_of}
