@@ -16,8 +16,8 @@ use Rattle.ledge.specs.declared.surfaces.Surface as code
 use Rattle.ledge.specs.declared.surfaces.Surface.TheVariants as code_case
 use Rattle.ledge.specs.Heights.{foot}
 use Rattle.ledge.specs.Landings.{Under, Higher, Floors}
-use Rattle.ledge.specs.Lines.{surface_of, number, Numbered, Unnumbered}
-use Rattle.ledge.specs.Sides.{end, roof}
+use Rattle.ledge.specs.Lines.{surface_of, number, Numbered}
+use Rattle.ledge.specs.Sides.{end}
 use Rattle.ledge.specs.Surfaces.{Surface, bottom, top, above, obstacle, Stands, Holds}
 use Rattle.ledge.proofs.Feet.{feet, gaps}
 use Rattle.ledge.proofs.Lining.{line_side}
@@ -64,9 +64,6 @@ module _ (gs : List Shape) (s : code.Surface) (p : Place) where
     pub top_run : (above gs (surface_of s)).b ≡ (corner (obstacle gs k) i).x -ℤ (end (obstacle gs k) i).x
     unfolding line
     top_run = ap (λ (r : code.Surface). (above gs (surface_of r)).b) e
-
-    pub top_foot : foot (above gs (surface_of s)) p ≡ foot (roof (obstacle gs k) i) p
-    top_foot = ap (λ (r : code.Surface). foot (above gs (surface_of r)) p) e
 
     module _ (h : Hall) where
       pub to_top : Holds h gs (surface_of s) p → Holds h gs (top k i) p
@@ -131,17 +128,6 @@ module _ (os : List (Shaped 16)) where
     best_none w = record { holds = bottom_holds h (map shape_of os) p w; highest = λ t k l. absurd (omega arith) }
 
     module _ (n : ℕ) (s : Surface) (best : Best h (map shape_of os) p n s) where
-      pub best_pass : Unnumbered (map shape_of os) n → Best h (map shape_of os) p (n + 1) s
-      best_pass none =
-          record {
-            holds = best.holds;
-            highest = λ t k l.
-                ⊎_elim
-                (λ e. absurd (none t (record { stands = stands h (map shape_of os) t p k.reaches; is = e })))
-                (λ e. best.highest t k (omega arith))
-                (cases_eq (number t) n);
-          }
-
       pub best_more : (t r : Surface) → Numbered (map shape_of os) n t → Higher h (map shape_of os) p s t r → Best h (map shape_of os) p (n + 1) r
       best_more t r m o =
           let gs = map shape_of os in

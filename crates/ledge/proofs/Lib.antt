@@ -34,3 +34,4 @@ pub mod Numbering
 pub mod Lining
 pub mod LinedUp
 pub mod Sharing
+pub mod Scaling

@@ -1,16 +1,17 @@
 -- The ends of upper chains: the corner that lies farthest out on one hand. Assumes nothing.
-use Rattle.std.proofs.Common.{◌≡◌, ℕ, ◌+◌, ◌<◌, List, length, pos, ◌*ℤ◌, ◌≤ℤ◌, sym, ◌∙◌, subst, arith, below_more}
+use Rattle.std.proofs.Common.{◌≡◌, ℕ, ◌<◌, List, length, pos, ◌*ℤ◌, ◌≤ℤ◌, inl, inr, sym, ◌∙◌, subst, arith}
 use borrow.Author.Differences.{ints}
+use Rattle.std.proofs.lemmas.Int.{by_lt_z}
 use Rattle.algebra.specs.Hall.{Corner, Place, Shape, Hall, Sound, Free, corner, next, at}
 use Rattle.algebra.proofs.Order.{pos>0, pos≥0, times-≤, untimes-≤}
 use Rattle.algebra.proofs.Forms.{same_place}
 use Rattle.algebra.proofs.Places.{same_standing}
-use Rattle.obstacle.specs.Section.{Spans}
-use Rattle.obstacle.proofs.Cycle.{next_below}
+use Rattle.obstacle.specs.Section.{Spans, LeftOf, RightOf}
+use Rattle.obstacle.proofs.Cycle.{next_below, find_one}
 use Rattle.obstacle.proofs.Mixed.{side_start, side_end}
 use Rattle.ledge.specs.declared.descents.Hand.{Hand}
 use Rattle.ledge.specs.declared.descents.Hand.TheVariants as hand
-use Rattle.ledge.specs.Descents.{Outermost, TipSide, end_at}
+use Rattle.ledge.specs.Descents.{Farther, Outermost, TipSide, end_at}
 use Rattle.ledge.specs.Graph.{Tip}
 use Rattle.ledge.specs.Heights.{Abreast, foot}
 use Rattle.ledge.specs.Sides.{Upper, end, roof}
@@ -20,32 +21,26 @@ use Rattle.ledge.proofs.Lining.{line_side}
 use Rattle.ledge.proofs.Standing.{roof_rises, upper_abreast}
 use Rattle.ledge.proofs.Whole.{one_height}
 
--- none of the first n corners lies farther out
-abbrev pub OuterTo : ℕ → Shape → Hand → Place → Type 0
-OuterTo n g hand.Left p = (j : ℕ) → j < n → p.x ≤ℤ ((corner g j).x *ℤ pos p.w)
-OuterTo n g hand.Right p = (j : ℕ) → j < n → ((corner g j).x *ℤ pos p.w) ≤ℤ p.x
-
--- corner n doesn't
-abbrev pub NotFarther : Shape → Hand → Place → ℕ → Type 0
-NotFarther g hand.Left p j = p.x ≤ℤ ((corner g j).x *ℤ pos p.w)
-NotFarther g hand.Right p j = ((corner g j).x *ℤ pos p.w) ≤ℤ p.x
-
+-- ---- which corners lie farther out
 module _ (g : Shape) (p : Place) where
-  pub outer_none : (s : Hand) → OuterTo 0 g s p
-  outer_none hand.Left = λ j l. absurd (omega arith)
-  outer_none hand.Right = λ j l. absurd (omega arith)
+  pub outermost_from : (s : Hand) → ((j : ℕ) → j < length g → Farther (corner g j) s p → ⊥) → Outermost g s p
+  outermost_from hand.Left none = λ j l. by_lt_z ((corner g j).x *ℤ pos p.w) p.x (λ f. absurd (none j l f)) (λ h. h)
+  outermost_from hand.Right none = λ j l. by_lt_z p.x ((corner g j).x *ℤ pos p.w) (λ f. absurd (none j l f)) (λ h. h)
 
-  pub outer_more : (s : Hand) (n : ℕ) → OuterTo n g s p → NotFarther g s p n → OuterTo (n + 1) g s p
-  outer_more hand.Left n o h = below_more _ _ o h
-  outer_more hand.Right n o h = below_more _ _ o h
+  pub none_farther : (s : Hand) → Outermost g s p → (j : ℕ) → j < length g → Farther (corner g j) s p → ⊥
+  none_farther hand.Left o j l f = omega (arith, ints, o j l)
+  none_farther hand.Right o j l f = omega (arith, ints, o j l)
 
-  pub outer_all : (s : Hand) → OuterTo (length g) g s p → Outermost g s p
-  outer_all hand.Left o = o
-  outer_all hand.Right o = o
+  -- a shape spans a place that is outermost on neither hand, and no other
+  pub spans_from : (Outermost g hand.Left p → ⊥) → (Outermost g hand.Right p → ⊥) → Spans g p
+  spans_from left right =
+      let a = find_one (length g) (λ i. LeftOf g i p) (λ i. p.x ≤ℤ ((corner g i).x *ℤ pos p.w)) (λ i. by_lt_z ((corner g i).x *ℤ pos p.w) p.x inl inr) left in
+      let b = find_one (length g) (λ i. RightOf g i p) (λ i. ((corner g i).x *ℤ pos p.w) ≤ℤ p.x) (λ i. by_lt_z p.x ((corner g i).x *ℤ pos p.w) inl inr) right in
+      record { i = a.it; j = b.it; i_within = a.within; j_within = b.within; left = a.is; right = b.is }
 
-  pub outer_at : (s : Hand) (n : ℕ) → n < length g → Outermost g s p → NotFarther g s p n
-  outer_at hand.Left n l o = o n l
-  outer_at hand.Right n l o = o n l
+  pub spanned_not : Spans g p → (s : Hand) → Outermost g s p → ⊥
+  spanned_not sp hand.Left o = omega (arith, ints, sp.left, o sp.i sp.i_within)
+  spanned_not sp hand.Right o = omega (arith, ints, sp.right, o sp.j sp.j_within)
 
 -- ---- the tip of an obstacle on one hand
 module _ (h : Hall) (gs : List Shape) (k : ℕ) where

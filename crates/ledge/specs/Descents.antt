@@ -1,5 +1,5 @@
 -- The falls from the ends of upper chains. Assumes nothing: these are definitions.
-use Rattle.std.specs.Prelude.{◌≡◌, ℕ, ◌+◌, ◌*◌, ◌<◌, List, length, pos, ◌*ℤ◌, ◌≤ℤ◌, None, Option, MatchOption, slice_index_or}
+use Rattle.std.specs.Prelude.{◌≡◌, ℕ, ◌+◌, ◌*◌, ◌<◌, List, length, pos, ◌*ℤ◌, ◌≤ℤ◌, ◌<ℤ◌, None, Option, MatchOption, slice_index_or}
 use Rattle.algebra.specs.Hall.{Corner, Place, Shape, Hall, at, corner}
 use Rattle.exact.specs.Points.{corner_of}
 use Rattle.exact.specs.Sides.{CornerNear}
@@ -13,7 +13,12 @@ use Rattle.ledge.specs.Lines.{surface_of}
 use Rattle.ledge.specs.Sides.{Upper, end}
 use Rattle.ledge.specs.Surfaces.{top, obstacle, above}
 
--- no corner of g lies farther out than p on one hand
+-- a corner lies farther out than p on one hand
+abbrev pub Farther : Corner → Hand → Place → Type 0
+Farther c hand.Left p = (c.x *ℤ pos p.w) <ℤ p.x
+Farther c hand.Right p = p.x <ℤ (c.x *ℤ pos p.w)
+
+-- no corner of g does
 abbrev pub Outermost : Shape → Hand → Place → Type 0
 Outermost g hand.Left p = (j : ℕ) → j < length g → p.x ≤ℤ ((corner g j).x *ℤ pos p.w)
 Outermost g hand.Right p = (j : ℕ) → j < length g → ((corner g j).x *ℤ pos p.w) ≤ℤ p.x

@@ -1,8 +1,7 @@
 -- The floor of a place, by its surface. Assumes nothing: these are definitions.
-use Rattle.std.specs.Prelude.{ℕ, ◌<◌, List, length, pos, ◌*ℤ◌, ◌≤ℤ◌}
+use Rattle.std.specs.Prelude.{List, pos, ◌*ℤ◌, ◌≤ℤ◌}
 use Rattle.algebra.specs.Hall.{Place, Shape, Hall}
 use Rattle.algebra.specs.Forms.{value}
-use Rattle.obstacle.specs.Section.{LeftOf, RightOf}
 use Rattle.exact.specs.declared.points.Side.{Side}
 use Rattle.ledge.specs.Heights.{foot}
 use Rattle.ledge.specs.Surfaces.{Surface, Holds, Floor, above}
@@ -16,17 +15,6 @@ abbrev pub floor_at : {h : Hall} {gs : List Shape} {p : Place} {s : Surface} →
 floor_at {h} {gs} {p} {s} f = record { surface = s; holds = f.holds; highest = f.highest }
 
 -- ---- what the parts of the code say
-
--- a corner is to the left of p, or to the right
-pub record SomeLeft (g : Shape) (p : Place) : Type 0 where
-  pub i : ℕ
-  pub within : i < length g
-  pub left : LeftOf g i p
-
-pub record SomeRight (g : Shape) (p : Place) : Type 0 where
-  pub i : ℕ
-  pub within : i < length g
-  pub right : RightOf g i p
 
 -- the abscissa of p is among those of a side that runs to the right
 pub record IsOver (roof : Side) (p : Place) : Type 0 where

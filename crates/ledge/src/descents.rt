@@ -1,16 +1,15 @@
 // Falls from the two ends of each obstacle's upper chain.
-ghost use Rattle.std.specs.Prelude.{◌≡◌, ℕ, ◌<◌, ◌≤◌, map, length, Decides, MatchOption};
+ghost use Rattle.std.specs.Prelude.{◌≡◌, ℕ, ◌^◌, ◌<◌, ◌≤◌, map, length, Decides, MatchOption};
 ghost use Rattle.hall.specs.Halls.{task_of};
 ghost use Rattle.hall.specs.Shapes.{shape_of};
 ghost use Rattle.obstacle.specs.Freedom.{Obstacles};
-ghost use Rattle.algebra.specs.Hall.{at};
-ghost use Rattle.exact.specs.Points.{corner_of};
-ghost use Rattle.exact.specs.Sides.{CornerNear};
-ghost use Rattle.ledge.specs.Descents.{Outermost, TipSide, NoTipSide, DescentIs, AllDescents, end_at};
+ghost use Rattle.exact.specs.Points.{corner_of, place_of};
+ghost use Rattle.exact.specs.Sides.{CornerNear, PlaceNear};
+ghost use Rattle.ledge.specs.Descents.{Farther, Outermost, TipSide, NoTipSide, DescentIs, AllDescents, end_at};
 
 use crate::floors::floor_of;
 use crate::surfaces::{Surface, is_upper};
-use exact::points::Corner;
+use exact::points::{Corner, Place};
 use hall::halls::Hall;
 use hall::shapes::Shape;
 use obstacle::freedom::is_free;
@@ -42,17 +41,26 @@ fn end_of(shape: &Shape<16>, side: usize, hand: Hand) -> Corner
     }
 }
 
-// Whether no corner of the shape lies farther out.
-fn is_outermost(shape: &Shape<16>, tip: Corner, hand: Hand) -> bool
-    ensures { Decides result (Outermost (shape_of shape.now) hand (at (corner_of tip))) }
+// Whether a corner lies farther out than a place.
+fn is_farther(corner: Corner, p: Place, hand: Hand) -> bool
+    requires corner { CornerNear 2047 corner }
+    requires place { PlaceNear (2 ^ 20) (2 ^ 20) p }
+    ensures { Decides result (Farther (corner_of corner) hand (place_of p)) }
+{
+    let x = corner.x * p.w as i64;
+    match hand {
+        Hand::Left => x < p.x,
+        Hand::Right => p.x < x,
+    }
+}
+
+// Whether no corner of the shape does.
+pub(crate) fn is_outermost(shape: &Shape<16>, p: Place, hand: Hand) -> bool
+    requires { PlaceNear (2 ^ 20) (2 ^ 20) p }
+    ensures { Decides result (Outermost (shape_of shape.now) hand (place_of p)) }
 {
     for i in 0..shape.len() {
-        let corner = shape.corner(i);
-        let farther = match hand {
-            Hand::Left => corner.x < tip.x,
-            Hand::Right => tip.x < corner.x,
-        };
-        if farther {
+        if is_farther(shape.corner(i), p, hand) {
             return false;
         }
     }
@@ -64,7 +72,7 @@ fn tip_side(shape: &Shape<16>, hand: Hand) -> Option<usize>
     ensures { MatchOption result (NoTipSide (shape_of shape.now) hand) (λ i. TipSide (shape_of shape.now) hand i) }
 {
     for i in 0..shape.len() {
-        if is_upper(shape, i) && is_outermost(shape, end_of(shape, i, hand), hand) {
+        if is_upper(shape, i) && is_outermost(shape, end_of(shape, i, hand).place(), hand) {
             return Some(i);
         }
     }

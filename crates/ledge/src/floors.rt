@@ -13,9 +13,10 @@ ghost use Rattle.ledge.specs.Heights.{foot};
 ghost use Rattle.ledge.specs.Sides.{end};
 ghost use Rattle.ledge.specs.Surfaces.{Stands, Holds, above, top, obstacle as obstacle_of};
 ghost use Rattle.ledge.specs.Lines.{surface_of};
-ghost use Rattle.ledge.specs.Landings.{Floors, Under, Higher, SomeLeft, SomeRight, IsOver};
+ghost use Rattle.ledge.specs.Landings.{Floors, Under, Higher, IsOver};
 
-use crate::surfaces::{Surface, surface_at};
+use crate::descents::{Hand, is_outermost};
+use crate::surfaces::{Surface, roof_of, surface_at};
 use exact::points::{Place, Side};
 use hall::halls::Hall;
 use hall::shapes::Shape;
@@ -25,20 +26,6 @@ use hall::shapes::Shape;
 struct Height {
     gap: i64,
     run: i64,
-}
-
-// An upper side of an obstacle as a side that runs to the right.
-fn roof_of(obstacles: &[Shape<16>], k: usize, i: usize) -> Side
-    requires { Stands (map shape_of obstacles.now) (top k i) }
-    ensures from { corner_of result.from ≡ end (obstacle_of (map shape_of obstacles.now) k) i }
-    ensures to { corner_of result.to ≡ corner (obstacle_of (map shape_of obstacles.now) k) i }
-    ensures bound { SideNear 2047 result }
-{
-    let run = obstacles[k].side(i);
-    Side {
-        from: run.to,
-        to: run.from,
-    }
 }
 
 // How high a place is over a surface.
@@ -76,38 +63,12 @@ fn is_under(obstacles: &[Shape<16>], low: Surface, high: Surface, p: Place) -> b
     s.run as i128 * t.gap as i128 <= t.run as i128 * s.gap as i128
 }
 
-// Whether a corner of a shape is to the left of a place.
-fn has_left(shape: &Shape<16>, p: Place) -> bool
-    requires { PlaceNear (2 ^ 20) (2 ^ 20) p }
-    ensures { Decides result (SomeLeft (shape_of shape.now) (place_of p)) }
-{
-    for i in 0..shape.len() {
-        if shape.corner(i).x * (p.w as i64) < p.x {
-            return true;
-        }
-    }
-    false
-}
-
-// Whether one is to the right of it.
-fn has_right(shape: &Shape<16>, p: Place) -> bool
-    requires { PlaceNear (2 ^ 20) (2 ^ 20) p }
-    ensures { Decides result (SomeRight (shape_of shape.now) (place_of p)) }
-{
-    for i in 0..shape.len() {
-        if p.x < shape.corner(i).x * (p.w as i64) {
-            return true;
-        }
-    }
-    false
-}
-
 // Whether corners of a shape lie on both sides of the upright line through a place.
 fn is_spanned(shape: &Shape<16>, p: Place) -> bool
     requires { PlaceNear (2 ^ 20) (2 ^ 20) p }
     ensures { Decides result (Spans (shape_of shape.now) (place_of p)) }
 {
-    has_left(shape, p) && has_right(shape, p)
+    !is_outermost(shape, p, Hand::Left) && !is_outermost(shape, p, Hand::Right)
 }
 
 // Whether the abscissa of a place is among those of a side that runs to the right.

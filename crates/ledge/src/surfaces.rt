@@ -4,8 +4,9 @@ ghost use Rattle.exact.specs.Points.{corner_of};
 ghost use Rattle.exact.specs.Sides.{SideNear};
 ghost use Rattle.hall.specs.Halls.{task_of};
 ghost use Rattle.hall.specs.Shapes.{shape_of};
-ghost use Rattle.ledge.specs.Sides.{Upper};
-ghost use Rattle.ledge.specs.Surfaces.{Stands};
+ghost use Rattle.algebra.specs.Hall.{corner};
+ghost use Rattle.ledge.specs.Sides.{Upper, end};
+ghost use Rattle.ledge.specs.Surfaces.{Stands, top, obstacle as obstacle_of};
 ghost use Rattle.ledge.specs.Lines.{surface_of, left_end, right_end, number, Numbered, Unnumbered};
 
 use exact::points::{Corner, Side};
@@ -29,6 +30,20 @@ pub fn is_upper(shape: &Shape<16>, side: usize) -> bool
     }
     let run = shape.side(side);
     run.to.x < run.from.x
+}
+
+// An upper side of an obstacle as a side that runs to the right.
+pub(crate) fn roof_of(obstacles: &[Shape<16>], k: usize, i: usize) -> Side
+    requires { Stands (map shape_of obstacles.now) (top k i) }
+    ensures from { corner_of result.from ≡ end (obstacle_of (map shape_of obstacles.now) k) i }
+    ensures to { corner_of result.to ≡ corner (obstacle_of (map shape_of obstacles.now) k) i }
+    ensures bound { SideNear 2047 result }
+{
+    let run = obstacles[k].side(i);
+    Side {
+        from: run.to,
+        to: run.from,
+    }
 }
 
 impl Surface {
@@ -58,13 +73,7 @@ impl Surface {
                     y: 0,
                 },
             },
-            Surface::Top { obstacle, side } => {
-                let run = obstacles[obstacle].side(side);
-                Side {
-                    from: run.to,
-                    to: run.from,
-                }
-            }
+            Surface::Top { obstacle, side } => roof_of(obstacles, obstacle, side),
         }
     }
 }

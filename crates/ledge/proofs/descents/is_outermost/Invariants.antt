@@ -1,8 +1,9 @@
-use Rattle.algebra.specs.Hall.{at}
-use Rattle.exact.specs.Points.{corner_of}
+use Rattle.std.proofs.Common.{ℕ, ◌<◌}
+use Rattle.algebra.specs.Hall.{corner}
+use Rattle.exact.specs.Points.{place_of}
 use Rattle.hall.specs.Shapes.{shape_of}
-use Rattle.ledge.proofs.Tips.{OuterTo}
+use Rattle.ledge.specs.Descents.{Farther}
 use Rattle.ledge.proofs.descents.is_outermost.Given as goal
 
 abbrev pub invariant-loop-i : goal.invariant-loop-i
-invariant-loop-i l = OuterTo l.i (shape_of l.shape) l.hand (at (corner_of l.tip))
+invariant-loop-i l = (k : ℕ) → k < l.i → Farther (corner (shape_of l.shape) k) l.hand (place_of l.p) → ⊥

@@ -1,6 +1,6 @@
-use Rattle.std.proofs.Common.{sym, subst, below_more}
+use Rattle.std.proofs.Common.{sym, ap, ◌∙◌, subst, below_more}
 use Rattle.std.proofs.lemmas.Bool.{both_ways}
-use Rattle.algebra.specs.Hall.{Corner, at}
+use Rattle.algebra.specs.Hall.{Place, at}
 use Rattle.hall.specs.Shapes.{shape_of}
 use Rattle.ledge.specs.Descents.{Outermost}
 use Rattle.ledge.proofs.descents.tip_side.Goals as goal
@@ -13,6 +13,6 @@ loop-i-preserved c =
     elim c.else-is_upper.branch [
       | else-is_upper-via-then-is_upper+else-is_outermost w ↦
           both_ways w.is_outermost.result w.if-is_outermost.false
-          (w.is_outermost.ensures.1 (subst (λ (d : Corner). Outermost (shape_of c.args.shape.now) c.args.hand (at d)) (sym w.end_of.ensures.value) t.outermost))
+          (w.is_outermost.ensures.1 (subst (λ (q : Place). Outermost (shape_of c.args.shape.now) c.args.hand q) (sym (w.place.ensures ∙ ap at w.end_of.ensures.value)) t.outermost))
       | else-is_upper-via-else-is_upper w ↦ both_ways c.is_upper.result w.if-is_upper.false (c.is_upper.ensures.1 t.upper)
     ])
