@@ -66,18 +66,19 @@ def by_words(point):
 
 
 def functions():
-    head = re.compile(r"^[ ]*(?:pub(?:\(crate\))? )?fn (\w+)", re.M)
+    head = re.compile(r"^([ ]*)(?:pub(?:\(crate\))? )?fn (\w+)")
     for name, text in sources():
-        for found in head.finditer(text):
-            opened = text.find("\n" + " " * (len(found.group(0)) - len(found.group(0).lstrip())) + "{", found.end())
-            inline = re.compile(r"\{\n").search(text, found.end())
-            start = opened if opened >= 0 and "ensures" in text[found.end():opened] else inline.start() if inline else -1
-            depth, end = 0, text.find("{", start)
-            for end in range(text.find("{", start), len(text)):
-                depth += {"{": 1, "}": -1}.get(text[end], 0)
-                if depth == 0:
-                    break
-            yield name, found.group(1), text[start:end + 1]
+        lines = text.split("\n")
+        for number, line in enumerate(lines):
+            found = head.match(line)
+            if not found:
+                continue
+            indent = found.group(1)
+            ends = (i for i in range(number, len(lines)) if lines[i] in (indent + "}", indent + "{}"))
+            end = next(ends, len(lines) - 1)
+            opened = (i for i in range(number, end + 1) if lines[i] == indent + "{" or lines[i].startswith(indent) and lines[i].endswith(" {"))
+            start = next(opened, number)
+            yield name, found.group(2), "\n".join(lines[start + 1:end])
 
 
 def skeleton(body):

@@ -1,5 +1,5 @@
--- A load is moved without turning among things that stand, all of them convex. These are the words in which every promise of this repository
--- is stated, and all that has to be believed of it: no map, cell or graph is among them. Assumes nothing: these are definitions.
+-- A load is moved without turning among things that stand, all of them convex. These are the words in which every promise on halls and ways
+-- is stated, and all that has to be believed of them: no map, cell or graph is among them. Assumes nothing: these are definitions.
 use Rattle.std.specs.Prelude.{ℕ, ◌+◌, ◌*◌, ◌<◌, ◌≤◌, cond, List, [], ◌∷◌, length, ℤ, pos, ◌+ℤ◌, ◌-ℤ◌, ◌*ℤ◌, ◌≤ℤ◌, ◌<ℤ◌, ◌==◌, ◌≢◌, slice_index_or}
 
 -- a corner has whole coordinates

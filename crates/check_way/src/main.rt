@@ -4,12 +4,11 @@
 use anyhow::anyhow;
 use std::env;
 use std::process::ExitCode;
-use text::console::{conclude, read_file};
+use text::console::{conclude, read_file, status};
 use text::replies::check_reply;
 
 fn run(rt: &HostRuntime) -> anyhow::Result<()> {
-    let mut words = env::args(rt)?;
-    let _ = words.next();
+    let mut words = env::args(rt)?.skip(1);
     let (Some(hall), Some(way)) = (words.next(), words.next()) else {
         eprintln!(rt; "check takes two files: a hall and a way")?;
         return Err(anyhow!("two files are wanted"));
@@ -22,10 +21,6 @@ fn run(rt: &HostRuntime) -> anyhow::Result<()> {
     )
 }
 
-// What is wrong was told where it was met, so an error is only a status here.
 fn main(rt: HostRuntime) -> ExitCode {
-    match run(&rt) {
-        Ok(()) => ExitCode::SUCCESS,
-        Err(_) => ExitCode::FAILURE,
-    }
+    status(run(&rt))
 }

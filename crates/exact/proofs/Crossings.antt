@@ -9,14 +9,14 @@ use Rattle.algebra.proofs.Ring.{zero-*ℤ, *ℤ-zero, negℤ-*ℤ}
 use Rattle.algebra.proofs.Polynomial.{forms, by_ring}
 use Rattle.algebra.proofs.Order.{signs, by-≡, times-≤, untimes-≡, product>0, pos≥0, pos>0}
 use Rattle.algebra.proofs.Ranges.{knows}
-use Rattle.exact.specs.declared.meets.Ends.{Ends}
+use Rattle.exact.specs.declared.points.Ends.{Ends}
 use Rattle.exact.specs.declared.points.Place as code
 use Rattle.exact.specs.declared.points.Side.{Side}
 use Rattle.exact.specs.Points.{corner_of, place_of}
 use Rattle.exact.specs.Sides.{SideNear, PlaceNear, turning}
 use Rattle.algebra.specs.Forms.{Same}
 use Rattle.exact.specs.Meets.{Among, On, EndsOf, Met}
-use Rattle.exact.proofs.Bounds.{by_near}
+use Rattle.exact.proofs.Bounds.{by_near, side_near}
 
 -- ---- signs
 -- of two numbers that are not of one sign, the less is not above 0, and the greater not below
@@ -185,6 +185,14 @@ parts_size {m} f g h k n =
     (omega (arith, ints), omega (arith, ints)))
 
 -- ---- the same of the sides of the code, by what their ends are
+pub turned_gap : (s t : Side) (f g : ℤ) → f ≡ side (corner_of t.from) (corner_of t.to) (at (corner_of s.from)) → g ≡ side (corner_of t.from) (corner_of t.to) (at (corner_of s.to)) →
+    Near 33521672 (f -ℤ g)
+turned_gap s t f g i j =
+    let k : SideNear 2047 s = side_near s in
+    let l : SideNear 2047 t = side_near t in
+    let n : Near 33521672 (turning s t) = by_near (search knows depth 60 fits 99999) tt in
+    subst (Near 33521672) (sym (ap₂ ◌-ℤ◌ i j ∙ gap (corner_of s.from) (corner_of s.to) (corner_of t.from) (corner_of t.to))) n
+
 module _ (s t : Side) (e : Ends) (ends : EndsOf s t e) where
   pub ends_gap : e.from -ℤ e.to ≡ turning s t
   ends_gap = ap₂ ◌-ℤ◌ ends.from ends.to ∙ gap (corner_of s.from) (corner_of s.to) (corner_of t.from) (corner_of t.to)
@@ -195,10 +203,8 @@ module _ (s t : Side) (e : Ends) (ends : EndsOf s t e) where
   pub ends_apart : pos 0 <ℤ (e.from *ℤ e.to) → (q : Place) → 0 < q.w → On s q → On t q → ⊥
   ends_apart h q = one_side (corner_of s.from) (corner_of s.to) (corner_of t.from) (corner_of t.to) q (subst (λ (z : ℤ). pos 0 <ℤ z) (ap₂ ◌*ℤ◌ ends.from ends.to) h)
 
-  pub ends_parts : SideNear 2047 s → SideNear 2047 t → (e.from ≡ e.to → ⊥) → (e.from *ℤ e.to) ≤ℤ pos 0 → (0 < nat_abs e.from + nat_abs e.to) × (nat_abs e.from + nat_abs e.to ≤ 33521672)
-  ends_parts i j h k =
-      let n : Near 33521672 (turning s t) = by_near (search knows depth 60 fits 99999) tt in
-      parts_size e.from e.to h k (subst (Near 33521672) (sym ends_gap) n)
+  pub ends_parts : (e.from ≡ e.to → ⊥) → (e.from *ℤ e.to) ≤ℤ pos 0 → (0 < nat_abs e.from + nat_abs e.to) × (nat_abs e.from + nat_abs e.to ≤ 33521672)
+  ends_parts h k = parts_size e.from e.to h k e.gap
 
   pub ends_meet : (o : Ends) → EndsOf t s o → (e.from ≡ e.to → ⊥) → (e.from *ℤ e.to) ≤ℤ pos 0 → (o.from *ℤ o.to) ≤ℤ pos 0 → (p : code.Place) →
       p.x ≡ (s.from.x *ℤ pos (nat_abs e.to)) +ℤ (s.to.x *ℤ pos (nat_abs e.from)) → p.y ≡ (s.from.y *ℤ pos (nat_abs e.to)) +ℤ (s.to.y *ℤ pos (nat_abs e.from)) → p.w ≡ nat_abs e.from + nat_abs e.to →

@@ -1,7 +1,9 @@
 -- Numbers in parts of 48 bits, and what is known of a part from the number. A number that is split has gone to its bits and back. Assumes nothing.
-use Rattle.std.proofs.Common.{◌≡◌, ℕ, ◌*◌, ◌^◌, [], ◌∷◌, ℤ, pos, ◌+ℤ◌, ◌*ℤ◌, sym, refl, ◌∙◌, subst, ap₂, arith, to_z, of_z}
+use Rattle.std.proofs.Common.{◌≡◌, ℕ, ◌*◌, ◌^◌, [], ◌∷◌, ℤ, pos, ◌+ℤ◌, ◌*ℤ◌, ◌<ℤ◌, Ordering, Less, Equal, Greater, sym, refl, ◌∙◌, subst, ap₂, arith, to_z, of_z}
 use mir.Syntax.{w128}
 use borrow.Author.Differences.{ints}
+use Rattle.std.specs.Ordering.{MatchOrdering, ordering_then, int_cmp}
+use Rattle.std.specs.Cmp.{int_ranks}
 use Rattle.std.proofs.lemmas.Int.{to_z-of_z}
 use Rattle.algebra.specs.Near.{Near}
 use Rattle.algebra.proofs.Polynomial.{forms, by_ring}
@@ -9,7 +11,7 @@ use Rattle.algebra.proofs.Order.{by-≡}
 use Rattle.algebra.proofs.Ranges.{knows, by_size, by_value, k_up}
 use Rattle.exact.specs.declared.wide.Halves.{Halves}
 use Rattle.exact.specs.declared.wide.Thirds.{Thirds}
-use Rattle.exact.specs.Wide.{halves_value, thirds_value, Digit, HalvesNear, ThirdsNear}
+use Rattle.exact.specs.Wide.{halves_value, thirds_value, Digit, HalvesNear, ThirdsNear, Carried}
 use Rattle.exact.proofs.Bounds.{by_near, kept}
 
 pub digit_kept : (z : ℤ) → Digit z → Digit (to_z w128 (of_z w128 z))
@@ -45,3 +47,24 @@ module _ (t : Thirds) (l m : Halves) (n : ThirdsNear (2 ^ 98) t) (e : halves_val
   carried_value =
       by-≡ ((halves_value m *ℤ pos (2 ^ 48)) +ℤ halves_value l) (((t.middle +ℤ l.high) *ℤ pos (2 ^ 48)) +ℤ t.low) (ap₂ (λ (y z : ℤ). (y *ℤ pos (2 ^ 48)) +ℤ z) middle_value (e ∙ kept w128 t.low n.low tt))
       (by_ring (t.high ∷ t.middle ∷ t.low ∷ l.high ∷ l.low ∷ m.high ∷ m.low ∷ []) (search forms depth 60 fits 99999) refl)
+
+-- ---- the sign of a number whose lower parts have none: that of its first part that isn't 0
+parts_ranked : (p q r : Ordering) (h m l n : ℤ) → ((h *ℤ pos (2 ^ 96)) +ℤ (m *ℤ pos (2 ^ 48))) +ℤ l ≡ n → Digit m → Digit l →
+    MatchOrdering p (h <ℤ pos 0) (h ≡ pos 0) (pos 0 <ℤ h) → MatchOrdering q (m <ℤ pos 0) (m ≡ pos 0) (pos 0 <ℤ m) → MatchOrdering r (l <ℤ pos 0) (l ≡ pos 0) (pos 0 <ℤ l) →
+    MatchOrdering (ordering_then (ordering_then p q) r) (n <ℤ pos 0) (n ≡ pos 0) (pos 0 <ℤ n)
+parts_ranked Less q r h m l n e d g i j k = omega (arith, ints, d.most, g.most)
+parts_ranked Greater q r h m l n e d g i j k = omega (arith, ints, d.least, g.least)
+parts_ranked Equal Less r h m l n e d g i j k = omega (arith, ints, d.least)
+parts_ranked Equal Greater r h m l n e d g i j k = omega (arith, ints, g.least)
+parts_ranked Equal Equal Less h m l n e d g i j k = omega (arith, ints, g.least)
+parts_ranked Equal Equal Equal h m l n e d g i j k = omega (arith, ints)
+parts_ranked Equal Equal Greater h m l n e d g i j k = omega (arith, ints)
+
+pub carried_ranked : (t : Thirds) (n : ℤ) → Carried t → thirds_value t ≡ n →
+    MatchOrdering (ordering_then (ordering_then (int_cmp (to_z w128 (of_z w128 t.high)) (pos 0)) (int_cmp (to_z w128 (of_z w128 t.middle)) (pos 0))) (int_cmp (to_z w128 (of_z w128 t.low)) (pos 0))) (n <ℤ pos 0) (n ≡ pos 0) (pos 0 <ℤ n)
+carried_ranked t n c e =
+    let h = to_z w128 (of_z w128 t.high) in
+    let m = to_z w128 (of_z w128 t.middle) in
+    let l = to_z w128 (of_z w128 t.low) in
+    let v = by_value (search (knows, c.high, c.middle.most, c.middle.least, c.low.most, c.low.least) depth 60 fits 99999) e in
+    parts_ranked (int_cmp h (pos 0)) (int_cmp m (pos 0)) (int_cmp l (pos 0)) h m l n v (digit_kept t.middle c.middle) (digit_kept t.low c.low) (int_ranks h (pos 0)) (int_ranks m (pos 0)) (int_ranks l (pos 0))

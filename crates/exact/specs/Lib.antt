@@ -1,3 +1,4 @@
+pub mod Corners
 pub mod Points
 pub mod Sides
 pub mod Meets

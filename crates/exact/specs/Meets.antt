@@ -4,7 +4,7 @@ use Rattle.algebra.specs.Hall as hall
 use Rattle.algebra.specs.Hall.{at, between, side}
 use Rattle.algebra.specs.Forms.{Same}
 use Rattle.algebra.specs.Near.{Near}
-use Rattle.exact.specs.declared.meets.Ends.{Ends}
+use Rattle.exact.specs.declared.points.Ends.{Ends}
 use Rattle.exact.specs.declared.points.Place.{Place}
 use Rattle.exact.specs.declared.points.Side.{Side}
 use Rattle.exact.specs.Points.{corner_of, place_of}

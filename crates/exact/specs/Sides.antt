@@ -1,15 +1,9 @@
--- How large corners, places and sides are, and the direction of a side. Assumes nothing: these are definitions.
+-- How large sides and places are, and how one side turns from another. Assumes nothing: these are definitions.
 use Rattle.std.specs.Prelude.{ℕ, ◌≤◌, ℤ, ◌-ℤ◌, ◌*ℤ◌}
 use Rattle.algebra.specs.Near.{Near}
-use Rattle.exact.specs.declared.points.Corner.{Corner}
 use Rattle.exact.specs.declared.points.Place.{Place}
 use Rattle.exact.specs.declared.points.Side.{Side}
-use Rattle.exact.specs.declared.sides.Direction.{Direction}
-
--- both coordinates from -m to m
-pub record CornerNear (m : ℕ) (c : Corner) : Type 0 where
-  pub x : Near m c.x
-  pub y : Near m c.y
+pub use Rattle.exact.specs.Corners.{CornerNear}
 
 pub record SideNear (m : ℕ) (s : Side) : Type 0 where
   pub from : CornerNear m s.from
@@ -21,10 +15,6 @@ pub record PlaceNear (m n : ℕ) (p : Place) : Type 0 where
   pub y : Near m p.y
   pub real : 1 ≤ p.w
   pub most : p.w ≤ n
-
-pub record DirectionNear (m : ℕ) (u : Direction) : Type 0 where
-  pub dx : Near m u.dx
-  pub dy : Near m u.dy
 
 -- the cross product of two sides' directions: above 0 if the second turns left of the first, 0 if they are parallel
 abbrev pub turning : Side → Side → ℤ

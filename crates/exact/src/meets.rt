@@ -2,16 +2,14 @@
 ghost use Rattle.std.specs.Prelude.{◌≡◌, ◌+◌, ◌-◌, ◌^◌, ◌<◌, ◌≤◌, pos, ◌+ℤ◌, ◌*ℤ◌, ◌<ℤ◌, Decides};
 ghost use Rattle.algebra.specs.Near.{Near};
 ghost use Rattle.exact.specs.Meets.{EndsOf, MeetIs};
-ghost use Rattle.exact.specs.Sides.{SideNear, PlaceNear};
+ghost use Rattle.exact.specs.Sides.{PlaceNear};
 
-use crate::points::{Place, Side};
+use crate::points::{Ends, Place, Side};
 use crate::sides::turn;
 
 impl Side {
     // The ends of this side against the line of another.
     pub fn against(self, line: Side) -> Ends
-        requires first { SideNear 2047 self }
-        requires second { SideNear 2047 line }
         ensures { EndsOf self line result }
     {
         Ends {
@@ -22,7 +20,6 @@ impl Side {
 
     // The place that divides the side as t to u, counted from its start.
     pub fn divided(self, t: u64, u: u64) -> Place
-        requires corners { SideNear 2047 self }
         requires some { 0 < t + u }
         requires parts { t + u ≤ 33521672 }
         ensures x { result.x ≡ (self.from.x *ℤ pos u) +ℤ (self.to.x *ℤ pos t) }
@@ -40,13 +37,6 @@ impl Side {
     }
 }
 
-// The values of a line at the two ends of a side.
-#[derive(Clone, Copy, Debug)]
-pub struct Ends {
-    pub from: i64,
-    pub to: i64,
-}
-
 impl Ends {
     // Whether both ends are on one side of the line, and off it.
     fn one_side(self) -> bool
@@ -61,8 +51,6 @@ impl Ends {
 // The place that two sides have in common, unless they are parallel. The ends of each are set against the line of the other:
 // where they lie on both sides of it, their distances from it are the parts in which it divides the side.
 pub fn meet(s: Side, t: Side) -> Option<Place>
-    requires first { SideNear 2047 s }
-    requires second { SideNear 2047 t }
     ensures { MeetIs s t result }
 {
     let f = s.against(t);

@@ -4,7 +4,7 @@ ghost use Rattle.std.specs.Ordering.{MatchOrdering};
 ghost use Rattle.algebra.specs.Forms.{Same};
 ghost use Rattle.exact.specs.Orders.{LeftOf, InLine, Lower, Level, FallOf};
 ghost use Rattle.exact.specs.Points.{place_of};
-ghost use Rattle.exact.specs.Sides.{SideNear, PlaceNear};
+ghost use Rattle.exact.specs.Sides.{PlaceNear};
 
 use crate::points::{Place, Side};
 use std::cmp::Ordering;
@@ -20,7 +20,8 @@ pub fn x_order(p: Place, q: Place) -> Ordering
     first.cmp(&second)
 }
 
-// Whether two places are the same, whatever numbers they are written in.
+// Whether two places are the same, whatever numbers they are written in. It can't be `==`: a place over 0 would be equal to places that differ; nor are
+// the orders here `Ord`, since each asks how large the numbers are.
 pub fn same_place(p: Place, q: Place) -> bool
     ensures { Decides result (Same (place_of p) (place_of q)) }
 {
@@ -38,7 +39,6 @@ pub struct Fall {
 impl Side {
     // The side's value at height 0 over the abscissa of a place, and its run, both as the run to the right has them.
     pub fn fall(self, here: Place) -> Fall
-        requires corners { SideNear 2047 self }
         requires slanted { self.from.x ≢ self.to.x }
         requires place { PlaceNear (2 ^ 36) (2 ^ 25) here }
         ensures { FallOf self here result }
@@ -59,8 +59,8 @@ impl Side {
 
 // Which of two sides is lower over the abscissa of a place; neither is upright.
 pub fn height_order(s: Side, t: Side, here: Place) -> Ordering
-    requires first { (SideNear 2047 s) × ((s.from.x ≢ s.to.x)) }
-    requires second { (SideNear 2047 t) × ((t.from.x ≢ t.to.x)) }
+    requires first { s.from.x ≢ s.to.x }
+    requires second { t.from.x ≢ t.to.x }
     requires place { PlaceNear (2 ^ 36) (2 ^ 25) here }
     ensures { MatchOrdering result (Lower s t here) (Level s t here) (Lower t s here) }
 {

@@ -3,24 +3,17 @@ ghost use Rattle.std.specs.Prelude.{◌≡◌, ◌^◌, ◌-ℤ◌, ◌*ℤ◌};
 ghost use Rattle.algebra.specs.Hall.{side, at};
 ghost use Rattle.algebra.specs.Near.{Near};
 ghost use Rattle.exact.specs.Points.{corner_of, place_of};
-ghost use Rattle.exact.specs.Sides.{CornerNear, SideNear, PlaceNear, DirectionNear};
+ghost use Rattle.exact.specs.Sides.{CornerNear, PlaceNear};
 
-use crate::points::{Corner, Place, Side};
+use crate::points::{Corner, Direction, Place, Side};
 
-// Where a side points, and how far.
-#[derive(Clone, Copy, Debug)]
-pub struct Direction {
-    pub dx: i64,
-    pub dy: i64,
-}
+impl From<Corner> for Place {
+    ghost from_gives = { λ c p. place_of p ≡ at (corner_of c) };
 
-impl Corner {
-    pub fn place(self) -> Place
-        ensures { place_of result ≡ at (corner_of self) }
-    {
+    fn from(corner: Corner) -> Place {
         Place {
-            x: self.x,
-            y: self.y,
+            x: corner.x,
+            y: corner.y,
             w: 1,
         }
     }
@@ -29,8 +22,7 @@ impl Corner {
 impl Side {
     // Above 0 if p lies to the left of the side's line, 0 on it, below 0 to the right.
     pub fn value(self, p: Place) -> i64
-        requires corners { SideNear 2047 self }
-        requires place { PlaceNear (2 ^ 45) (2 ^ 34) p }
+        requires { PlaceNear (2 ^ 45) (2 ^ 34) p }
         ensures value { result ≡ side (corner_of self.from) (corner_of self.to) (place_of p) }
         ensures bound { Near (2 ^ 59) result }
     {
@@ -40,10 +32,8 @@ impl Side {
     }
 
     pub fn direction(self) -> Direction
-        requires { SideNear 2047 self }
         ensures dx { result.dx ≡ self.to.x -ℤ self.from.x }
         ensures dy { result.dy ≡ self.to.y -ℤ self.from.y }
-        ensures bound { DirectionNear 4094 result }
     {
         Direction {
             dx: self.to.x - self.from.x,
@@ -65,8 +55,6 @@ pub fn turn(a: Corner, b: Corner, c: Corner) -> i64
 
 // Above 0 if v points to the left of u, 0 if the two are parallel, below 0 if v points to the right.
 pub fn cross(u: Direction, v: Direction) -> i64
-    requires u { DirectionNear 4094 u }
-    requires v { DirectionNear 4094 v }
     ensures value { result ≡ (u.dx *ℤ v.dy) -ℤ (u.dy *ℤ v.dx) }
     ensures bound { Near (2 ^ 25) result }
 {

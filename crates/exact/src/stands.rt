@@ -1,9 +1,7 @@
 // How large the numbers of this crate become.
 ghost use Rattle.exact.specs.Stands.{Stands};
 
-// The bounds hold, whatever is passed; what it returns says nothing.
-pub fn exact_stands() -> u8
+// No number on the way passes the bounds that are stated.
+pub fn exact_stands()
     ensures { Stands }
-{
-    0
-}
+{}

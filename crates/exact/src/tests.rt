@@ -1,6 +1,4 @@
 // Cases with numbers.
-ghost use Rattle.exact.specs.Sides.{SideNear};
-
 use crate::meets::meet;
 use crate::orders::{height_order, same_place, x_order};
 use crate::points::{Corner, Place, Side};
@@ -11,9 +9,7 @@ use std::cmp::Ordering;
 // 2 ^ 96
 const TOP: i128 = 79228162514264337593543950336;
 
-fn side(a: i8, b: i8, c: i8, d: i8) -> Side
-    ensures { SideNear 2047 result }
-{
+fn side(a: i8, b: i8, c: i8, d: i8) -> Side {
     Side {
         from: Corner {
             x: a as i64,
@@ -27,9 +23,7 @@ fn side(a: i8, b: i8, c: i8, d: i8) -> Side
 }
 
 // Whether the sides meet at x / w, y / w.
-fn meet_at(s: Side, t: Side, x: i64, y: i64, w: u64) -> bool
-    requires { (SideNear 2047 s) × (SideNear 2047 t) }
-{
+fn meet_at(s: Side, t: Side, x: i64, y: i64, w: u64) -> bool {
     match meet(s, t) {
         Some(p) => same_place(p, Place { x, y, w }),
         None => false,

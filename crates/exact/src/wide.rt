@@ -17,6 +17,7 @@ pub struct Halves {
 }
 
 // The number high * 2 ^ 96 + middle * 2 ^ 48 + low.
+// Its type keeps no bound: each step has another.
 #[derive(Clone, Copy, Debug)]
 pub struct Thirds {
     pub high: i128,
@@ -86,14 +87,7 @@ impl Thirds {
         ensures { MatchOrdering result (thirds_value self <ℤ pos 0) (thirds_value self ≡ pos 0) (pos 0 <ℤ thirds_value self) }
     {
         let number = self.carried();
-        if number.high < 0 {
-            Ordering::Less
-        } else if number.high > 0 {
-            Ordering::Greater
-        } else {
-            let rest = number.middle * HALF + number.low;
-            rest.cmp(&0)
-        }
+        (number.high, number.middle, number.low).cmp(&(0, 0, 0))
     }
 }
 

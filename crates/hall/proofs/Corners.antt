@@ -2,21 +2,25 @@
 use Rattle.std.proofs.Common.{◌≡◌, ℕ, ◌+◌, ◌*◌, ◌<◌, ◌≤◌, true, List, length, get_or, take, ℤ, pos, None, sym, ap, ◌∙◌, subst, arith}
 use Rattle.std.proofs.lemmas.List.{ext_get_or, get_or-take, length-take-le}
 use Rattle.std.proofs.lemmas.Int.{ints}
+use Rattle.std.proofs.lemmas.Bool.{and_from}
 use Rattle.algebra.specs.Hall as hall
 use Rattle.algebra.specs.Near.{Near}
 use Rattle.exact.specs.declared.points.Corner.{Corner}
 use Rattle.exact.specs.Points.{corner_of, zero}
 use Rattle.hall.specs.Bytes.{signed_2}
 use Rattle.hall.specs.Format.{near, first_below, number_at, corner_at, corners_at}
-use Rattle.hall.specs.Outlines.{outline_of, EachNear}
-use Rattle.hall.proofs.Faults.{below_none, test_from_none}
+use Rattle.hall.specs.Outlines.{outline_of, within}
+use Rattle.hall.proofs.Faults.{below_none, test_from_none, all_from}
 use Rattle.hall.proofs.Outlines.{corner_outline, length_outline}
-use Rattle.hall.proofs.Taken.{near_from_test}
+use Rattle.hall.proofs.Taken.{near_from_test, test_from_near}
 use Rattle.hall.proofs.Sounds.{length_corners_at, corner_corners_at}
 
 -- a test with a lower bound
-near_within : (m l : ℕ) (z : ℤ) → m ≤ l → near m z ≡ true → Near l z
-near_within m l z h e = let n = near_from_test m z e in record { low = omega (arith, ints); high = omega (arith, ints) }
+near_wider : (m l : ℕ) (z : ℤ) → m ≤ l → near m z ≡ true → near l z ≡ true
+near_wider m l z h e =
+    let n = near_from_test m z e in
+    let w : Near l z = record { low = omega (arith, ints); high = omega (arith, ints) } in
+    test_from_near l z w
 
 -- eight corners cs were read from the byte `from` on, of which n make a shape
 module _ (bs : List ℕ) (cs : List Corner) (from n : ℕ) (room : length cs ≡ 8) (few : n ≤ 8)
@@ -35,19 +39,18 @@ module _ (bs : List ℕ) (cs : List Corner) (from n : ℕ) (room : length cs ≡
       let l : i < n = subst (λ (m : ℕ). i < m) e h in
       corner_outline (take n cs) i ∙ (corner_read i l ∙ sym (corner_corners_at n bs from i l)))
 
-  pub each_near_read : (m l : ℕ) → m ≤ l → ((k : ℕ) → k < 2 * n → near m (signed_2 bs (from + 2 * k)) ≡ true) → EachNear l (take n cs)
-  unfolding EachNear
-  each_near_read m l b h i p =
-      let q : i < n = subst (λ (j : ℕ). i < j) length_read p in
-      let c = corner_read i q in
+  pub within_read : (m l : ℕ) → m ≤ l → ((k : ℕ) → k < 2 * n → near m (signed_2 bs (from + 2 * k)) ≡ true) → within l (outline_of (take n cs)) ≡ true
+  unfolding within
+  within_read m l b h =
+      all_from (length (outline_of (take n cs))) _
+      (λ i p.
+      let q : i < n = omega (arith, p, length_outline (take n cs), length_read) in
+      let c : corner_at bs (from + 4 * i) ≡ hall.corner (outline_of (take n cs)) i = sym (corner_outline (take n cs) i ∙ corner_read i q) in
       let x : from + 2 * (2 * i) ≡ from + 4 * i = omega arith in
       let y : from + 2 * (2 * i + 1) ≡ from + 4 * i + 2 = omega arith in
-      let u : near m (signed_2 bs (from + 4 * i)) ≡ true = rw x at (h (2 * i) (omega arith)) in
-      let v : near m (signed_2 bs (from + 4 * i + 2)) ≡ true = rw y at (h (2 * i + 1) (omega arith)) in
-      record {
-        x = near_within m l _ b (ap (λ (d : hall.Corner). near m d.x) c ∙ u);
-        y = near_within m l _ b (ap (λ (d : hall.Corner). near m d.y) c ∙ v);
-      }
+      and_from _ _
+      (ap (λ (d : hall.Corner). near l d.x) (sym c) ∙ near_wider m l _ b (rw x at (h (2 * i) (omega arith))))
+      (ap (λ (d : hall.Corner). near l d.y) (sym c) ∙ near_wider m l _ b (rw y at (h (2 * i + 1) (omega arith)))))
 
 -- the tests of the numbers of a shape at `at`, one by one
 pub numbers_near : (m : ℕ) (bs : List ℕ) (at n : ℕ) → first_below n (number_at m bs at) ≡ None → (k : ℕ) → k < n → near m (signed_2 bs (at + 1 + 2 * k)) ≡ true

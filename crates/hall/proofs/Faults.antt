@@ -1,5 +1,5 @@
 -- The first refusal of several, and tests of all numbers below one. Assumes nothing.
-use Rattle.std.proofs.Common.{◌≡◌, ℕ, zero, suc, ◌+◌, ◌<◌, ◌≤◌, Bool, true, false, IsErrAnd, Some, None, Option, Result, sym, refl, ap, ◌∙◌, ⊎_elim, arith}
+use Rattle.std.proofs.Common.{◌≡◌, ℕ, zero, suc, ◌+◌, ◌<◌, ◌≤◌, Bool, true, false, IsErrAnd, Some, None, Option, Result, Ok, Err, subst, sym, refl, ap, ◌∙◌, ⊎_elim, arith}
 use Rattle.hall.specs.Outlines.{Tells}
 use Rattle.std.proofs.lemmas.Result.{err_from_is_err_and}
 use Rattle.std.proofs.lemmas.Bool.{and_parts, and_from, and_left, and_right, cases_eq}
@@ -29,6 +29,14 @@ later a b r e f = none_then a b e ∙ f
 pub exits : {X : Type 0} (r : Result X Refusal) (e : Refusal) (fault : Option Refusal) → IsErrAnd r (λ y. y ≡ e) → fault ≡ Some e → Tells r fault
 exits r e fault b h = let p = err_from_is_err_and r b in rw (p.1, p.2) h
 
+-- of two calls the first tells q: where it breaks off, so does the whole, and else the second tells
+module _ {X Y : Type 0} (q : Result X Refusal) (r : Result Y Refusal) (a b : Option Refusal) (told : Tells q a) where
+  pub breaks_off : (e : Refusal) → q ≡ Err e → IsErrAnd r (λ y. y ≡ e) → Tells r (a then b)
+  breaks_off e was h = exits r e (a then b) h (some_then a b e (subst (λ v. Tells v a) was told))
+
+  pub goes_on : (x : X) → q ≡ Ok x → Tells r b → Tells r (a then b)
+  goes_on x was t = tells_second r a b (subst (λ v. Tells v a) was told) t
+
 -- ---- a refusal, unless a test holds
 pub test_from_none : (t : Bool) (r : Refusal) → unless t r ≡ None → t ≡ true
 test_from_none true r e = refl
@@ -36,9 +44,6 @@ test_from_none false r e = absurd (let z : ◌≡◌ {A = ℕ} 0 1 = cc in omega
 
 pub unless_true : (t : Bool) (r : Refusal) → t ≡ true → unless t r ≡ None
 unless_true t r e = ap (λ (x : Bool). unless x r) e
-
-pub unless_false : (t : Bool) (r : Refusal) → t ≡ false → unless t r ≡ Some r
-unless_false t r e = ap (λ (x : Bool). unless x r) e
 
 -- ---- the first below n
 pub below_none : (n : ℕ) (f : ℕ → Option Refusal) → first_below n f ≡ None → (k : ℕ) → k < n → f k ≡ None
@@ -74,9 +79,6 @@ all_at (suc n) f e k h =
 pub all_from : (n : ℕ) (f : ℕ → Bool) → ((k : ℕ) → k < n → f k ≡ true) → all_below n f ≡ true
 all_from zero f h = refl
 all_from (suc n) f h = and_from (all_below n f) (f n) (all_from n f (λ k l. h k (omega arith))) (h n (omega arith))
-
-pub all_step : (k : ℕ) (f : ℕ → Bool) → all_below k f ≡ true → f k ≡ true → all_below (k + 1) f ≡ true
-all_step k f e h = all_from (k + 1) f (λ j l. ⊎_elim (λ q. ap f q ∙ h) (λ q. all_at k f e j (omega arith)) (cases_eq j k))
 
 pub not_all : (n k : ℕ) (f : ℕ → Bool) → k < n → f k ≡ false → all_below n f ≡ false
 not_all zero k f h e = absurd (omega arith)

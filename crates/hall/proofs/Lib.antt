@@ -1,7 +1,10 @@
 pub mod Faults
 pub mod Outlines
+pub mod Made
+pub mod Each
 pub mod Questions
 pub mod Sounds
+pub mod Spelt
 pub mod Pieces
 pub mod Digits
 pub mod Laid
@@ -12,5 +15,6 @@ pub mod Layouts
 pub mod Numbered
 pub mod Drawings
 pub mod Readings
-pub mod Written
 pub mod Kept
+pub mod Walks
+pub mod Written

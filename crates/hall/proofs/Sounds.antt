@@ -1,11 +1,12 @@
 -- Shapes: the test decides whether one is sound, and where shapes and places stand among bytes. Assumes nothing.
-use Rattle.std.proofs.Common.{◌≡◌, ℕ, zero, suc, ◌+◌, ◌*◌, ◌<◌, ◌≤◌, true, not, ◌&&◌, eqb, leb, List, [], ◌∷◌, ◌++◌, length, get_or, ℤ, pos, ◌≤ℤ◌, ◌<ℤ◌, None, Option, refl, ap, ◌∙◌, ap₂, ⊎_elim, arith}
+use Rattle.std.proofs.Common.{◌≡◌, ℕ, zero, suc, ◌+◌, ◌*◌, ◌<◌, ◌≤◌, true, not, ◌&&◌, eqb, leb, List, [], ◌∷◌, ◌++◌, length, get_or, map, ℤ, pos, ◌≤ℤ◌, ◌<ℤ◌, None, Option, refl, ap, ◌∙◌, ap₂, ⊎_elim, arith}
 use lib.Signed.{lt_z, le_z}
 use borrow.Author.Differences.{ints}
 use Rattle.std.proofs.ByRecursion.{All-get_or}
 use Rattle.std.proofs.lemmas.List.{get_or_past}
 use Rattle.std.proofs.lemmas.Bool.{and_parts, and_from, or_cases, or_left, or_right, not-true, not_from_false, both_ways, eqb-true, eq-eqb, leb-true, le-leb, cases_eq, cases_lt, cases_Bool}
 use Rattle.algebra.specs.Hall.{Corner, Place, Shape, Sound, Covers, at, corner, next, edge}
+use Rattle.std.specs.List.{range_with_len}
 use Rattle.hall.specs.declared.refusals.Refusal.{Refusal}
 use Rattle.hall.specs.declared.refusals.Refusal.TheVariants.{Bend}
 use Rattle.hall.specs.Format.{first_below, unless, bends_left, right_of_none, same_corner, not_again, sound, bend_fault, corner_at, corners_at, shape_at, shapes_at, place_at, places_at, past}
@@ -160,13 +161,11 @@ pub length_places_at : (n : ℕ) (bs : List ℕ) (i : ℕ) → length (places_at
 length_places_at zero bs i = refl
 length_places_at (suc n) bs i = ap suc (length_places_at n bs (i + 24))
 
-pub places_at_more : (k : ℕ) (bs : List ℕ) (i : ℕ) → places_at (k + 1) bs i ≡ places_at k bs i ++ place_at bs (i + 24 * k) ∷ []
-places_at_more zero bs i = ap (λ (j : ℕ). place_at bs j ∷ []) (omega arith)
-places_at_more (suc k) bs i =
-    let e : suc k + 1 ≡ suc (k + 1) = omega arith in
-    let j : i + 24 + 24 * k ≡ i + 24 * suc k = omega arith in
-    ap (λ (n : ℕ). places_at n bs i) e
-    ∙ (ap (λ (ps : List Place). place_at bs i ∷ ps) (places_at_more k bs (i + 24)) ∙ ap (λ (n : ℕ). place_at bs i ∷ (places_at k bs (i + 24) ++ place_at bs n ∷ [])) j)
+pub places_at_each : (n : ℕ) (bs : List ℕ) (i a : ℕ) → map (λ k. place_at bs (i + 24 * k)) (range_with_len a n) ≡ places_at n bs (i + 24 * a)
+places_at_each zero bs i a = refl
+places_at_each (suc n) bs i a =
+    let j : i + 24 * (a + 1) ≡ i + 24 * a + 24 = omega arith in
+    ap (λ (ps : List Place). place_at bs (i + 24 * a) ∷ ps) (places_at_each n bs i (a + 1) ∙ ap (places_at n bs) j)
 
 pub item_places_at : (n : ℕ) (bs : List ℕ) (i k : ℕ) (d : Place) → k < n → get_or (places_at n bs i) k d ≡ place_at bs (i + 24 * k)
 item_places_at zero bs i k d h = absurd (omega arith)

@@ -1,20 +1,17 @@
 -- Bytes that are added one piece after the other, and the bytes of a number by its digits. Assumes nothing.
-use Rattle.std.proofs.Common.{◌≡◌, ℕ, ◌+◌, ◌/◌, ◌%◌, ◌<◌, ◌≤◌, Bool, true, false, cond, ◌&&◌, T, List, [], ◌∷◌, ◌++◌, map, length, get_or, take, is_ok, Ok, Err, Result, sym, refl, ap, ◌∙◌, ap₂, append_assoc, arith}
+use Rattle.std.proofs.Common.{◌≡◌, ℕ, zero, suc, ℤ, of_z, w16, w64, ◌+◌, ◌/◌, ◌%◌, ◌<◌, ◌≤◌, cond, List, [], ◌∷◌, ◌++◌, map, length, get_or, take, is_ok, Ok, Err, Result, sym, refl, ap, ◌∙◌, ap₂, append_assoc, arith}
 use Rattle.std.specs.List.{flat_map}
-use Rattle.std.proofs.lemmas.List.{get_or-take, length-take-le, take_more, map-append, flat_map_more}
-use Rattle.std.proofs.lemmas.Bool.{and_parts}
+use Rattle.std.proofs.lemmas.Int.{ints}
+use Rattle.std.proofs.lemmas.List.{take_more, map-append, flat_map_more}
 use Rattle.algebra.specs.Hall as hall
 use Rattle.exact.specs.declared.points.Corner.{Corner}
-use Rattle.exact.specs.Points.{corner_of, zero}
-use Rattle.exact.specs.Sides.{CornerNear}
+use Rattle.algebra.specs.Near.{Near}
 use Rattle.hall.specs.Bytes.{digits}
-use Rattle.hall.specs.Format.{near, corner_bytes, shape_bytes, place_bytes, task_bytes, way_bytes}
-use Rattle.hall.specs.Outlines.{outline, within}
+use Rattle.hall.specs.Format.{corner_bytes, shape_bytes, place_bytes, task_bytes, way_bytes}
+use Rattle.hall.specs.Outlines.{outline}
 use Rattle.hall.specs.Tasks.{Task}
 use Rattle.hall.specs.Writing.{Adds}
-use Rattle.hall.proofs.Faults.{all_at}
-use Rattle.hall.proofs.Outlines.{corner_outline, length_outline}
-use Rattle.hall.proofs.Taken.{near_from_test}
+use Rattle.hall.proofs.Kept.{length_kept}
 
 -- ---- pieces
 -- a piece, and then another
@@ -42,10 +39,6 @@ joined_step f g xs i d start before after h b a =
     ∙ (flat_map_more f start (map g (take i xs)) (g (get_or xs i d)) ∙ ap (λ t. start ++ flat_map f t) (sym m)))
 
 -- ---- the bytes of a number
-pub digits_2 : (n : ℕ) → n % 256 ∷ n / 256 % 256 ∷ [] ≡ digits 2 n
-unfolding digits
-digits_2 n = refl
-
 pub digits_8 : (n : ℕ) → n % 256 ∷ n / 256 % 256 ∷ n / 65536 % 256 ∷ n / 16777216 % 256 ∷ n / 4294967296 % 256 ∷ n / 1099511627776 % 256 ∷ n / 281474976710656 % 256 ∷ n / 72057594037927936 % 256 ∷ [] ≡ digits 8 n
 unfolding digits
 digits_8 n =
@@ -57,33 +50,27 @@ digits_8 n =
     let g : n / 72057594037927936 ≡ n / 281474976710656 / 256 = omega arith in
     cc
 
--- ---- the corners of a shape
-holds : (b : Bool) → T b → b ≡ true
-holds true h = refl
-holds false h = absurd h
+-- its lowest bytes
+pub take_digits : (k m n : ℕ) → k ≤ m → take k (digits m n) ≡ digits k n
+unfolding digits
+take_digits zero m n h = refl
+take_digits (suc k) zero n h = absurd (omega arith)
+take_digits (suc k) (suc m) n h = ap (λ (t : List ℕ). n % 256 ∷ t) (take_digits k m (n / 256) (omega arith))
 
-pub length_drawn : (n : ℕ) (cs : List Corner) → n ≤ length cs → length (outline n cs) ≡ n
-length_drawn n cs room = length_outline (take n cs) ∙ length-take-le n cs room
+-- two bytes of a small number with sign, of two or of eight
+pub digits_low : (z : ℤ) → Near 2047 z → digits 2 (of_z w64 z) ≡ digits 2 (of_z w16 z)
+unfolding digits
+digits_low z h =
+    let a : of_z w64 z % 256 ≡ of_z w16 z % 256 = omega (arith, ints, h.low, h.high) in
+    let b : of_z w64 z / 256 % 256 ≡ of_z w16 z / 256 % 256 = omega (arith, ints, h.low, h.high) in
+    cc
 
-pub near_corner : (m n k : ℕ) (cs : List Corner) → n ≤ length cs → T (within m (outline n cs)) → k < n → CornerNear m (get_or cs k zero)
-unfolding within
-near_corner m n k cs room h l =
-    let s = outline n cs in
-    let c : hall.corner s k ≡ corner_of (get_or cs k zero) = corner_outline (take n cs) k ∙ ap corner_of (get_or-take n cs k zero l) in
-    let t = all_at (length s) (λ i. near m (hall.corner s i).x && near m (hall.corner s i).y) (holds _ h) k (omega (arith, length_drawn n cs room)) in
-    let p = and_parts (near m (hall.corner s k).x) (near m (hall.corner s k).y) t in
-    record {
-      x = near_from_test m _ (sym (ap (λ (d : hall.Corner). near m d.x) c) ∙ p.0);
-      y = near_from_test m _ (sym (ap (λ (d : hall.Corner). near m d.y) c) ∙ p.1);
-    }
-
--- ---- a shape, a way and a task in pieces: k is the number of corners that were written, and b0, b1, .. are the bytes after each piece
-pub shape_written : (cs : List Corner) (n k : ℕ) (before : List ℕ) {between after : List ℕ} → k ≡ n → k ≤ length cs
-    → between ≡ before ++ n ∷ [] → after ≡ between ++ flat_map corner_bytes (outline k cs) → after ≡ before ++ shape_bytes (outline n cs)
-shape_written cs n k before {between} e room count corners =
-    let l : n ≡ length (outline n cs) = sym (length_drawn n cs (omega arith)) in
-    in_turn before (length (outline n cs) ∷ []) (flat_map corner_bytes (outline n cs))
-    (count ∙ ap (λ (m : ℕ). before ++ m ∷ []) l) (corners ∙ ap (λ (m : ℕ). between ++ flat_map corner_bytes (outline m cs)) e)
+-- ---- a shape, a way and a task in pieces: b0, b1, .. are the bytes after each piece
+pub shape_written : (cs : List Corner) (n : ℕ) (before : List ℕ) {between after : List ℕ} → n ≤ length cs
+    → between ≡ before ++ n ∷ [] → after ≡ between ++ flat_map corner_bytes (outline n cs) → after ≡ before ++ shape_bytes (outline n cs)
+shape_written cs n before room count corners =
+    let l : n ≡ length (outline n cs) = sym (length_kept n cs room) in
+    in_turn before (length (outline n cs) ∷ []) (flat_map corner_bytes (outline n cs)) (count ∙ ap (λ (m : ℕ). before ++ m ∷ []) l) corners
 
 pub way_written : (ps : List hall.Place) (n : ℕ) {b0 b1 b2 : List ℕ} → n ≡ length ps
     → b0 ≡ [] → b1 ≡ b0 ++ digits 2 n → b2 ≡ b1 ++ flat_map place_bytes ps → b2 ≡ way_bytes ps

@@ -9,3 +9,4 @@ pub mod Halls
 pub mod Routes
 pub mod Reading
 pub mod Writing
+pub mod Sides

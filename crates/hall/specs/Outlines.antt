@@ -1,11 +1,10 @@
 -- The corners of the code as a shape of the definitions, and what a function says of a fault. Assumes nothing: these are definitions.
-use Rattle.std.specs.Prelude.{◌≡◌, ℕ, ◌<◌, Bool, ◌&&◌, List, map, length, take, Some, None, Option, Result, MatchResult, nat_le, slice_index_or}
+use Rattle.std.specs.Prelude.{◌≡◌, ℕ, Bool, ◌&&◌, List, map, length, take, Some, None, Option, Result, MatchResult, nat_le}
 use Rattle.algebra.specs.Hall as hall
 use Rattle.exact.specs.declared.points.Corner.{Corner}
 use Rattle.exact.specs.declared.points.Place.{Place}
 use Rattle.hall.specs.Format.{near, all_below}
-use Rattle.exact.specs.Points.{corner_of, zero}
-use Rattle.exact.specs.Sides.{CornerNear}
+use Rattle.exact.specs.Points.{corner_of}
 use Rattle.hall.specs.declared.refusals.Refusal.{Refusal}
 
 abbrev pub outline_of : List Corner → hall.Shape
@@ -22,9 +21,6 @@ within m s = all_below (length s) (λ i. near m (hall.corner s i).x && near m (h
 -- whether a place has x and y from -m to m, and w from 1 to m
 unfoldable pub bounded : ℕ → Place → Bool
 bounded m p = (near m p.x && near m p.y) && (nat_le 1 p.w && nat_le p.w m)
-
-unfoldable pub EachNear : ℕ → List Corner → Type 0
-EachNear m cs = (i : ℕ) → i < length cs → CornerNear m (slice_index_or cs i zero)
 
 -- an answer of Ok says that there is no fault, and an Err has the first
 abbrev pub Tells : {X : Type 0} → Result X Refusal → Option Refusal → Type 0

@@ -1,5 +1,5 @@
--- The number of each refusal, and the places that it names. Assumes nothing: these are definitions.
-use Rattle.std.specs.Prelude.{ℕ, List, [], ◌∷◌}
+-- The number of each refusal, the places that it names, and the text that says so. Assumes nothing: these are definitions.
+use Rattle.std.specs.Prelude.{ℕ, List, [], ◌∷◌, ◌++◌, codes, decimal}
 use Rattle.hall.specs.declared.refusals.Lent.{Lent}
 use Rattle.hall.specs.declared.refusals.Lent.TheVariants as lent
 use Rattle.hall.specs.declared.refusals.Refusal.{Refusal}
@@ -30,3 +30,12 @@ places (Slice s) = slice_number s ∷ []
 places (Waypoint i) = i ∷ []
 places (Collision i k) = i ∷ k ∷ []
 places Memory = 0 ∷ []
+
+-- each number after a space
+abbrev pub listed : List ℕ → List ℕ
+listed [] = []
+listed (n ∷ ns) = codes " " ++ (decimal n ++ listed ns)
+
+-- as refused 4 at 9, or refused 7 at 3 2
+abbrev pub refusal_text : Refusal → List ℕ
+refusal_text r = codes "refused " ++ (decimal (number r) ++ (codes " at" ++ listed (places r)))

@@ -1,112 +1,75 @@
 // Whether corners in order make a sound shape, and where the first of them that doesn't begins.
-ghost use Rattle.std.specs.Prelude.{◌≡◌, ◌^◌, ◌<◌, ◌≤◌, length};
+ghost use Rattle.std.specs.Prelude.{◌≡◌, ◌+◌, ◌*◌, ◌^◌, ◌<◌, ◌≤◌, T, length};
 ghost use Rattle.algebra.specs.Hall.{at, corner, edge};
-ghost use Rattle.exact.specs.Points.{corner_of};
-ghost use Rattle.hall.specs.Format.{bends_left, right_of_none, same_corner, not_again, first_below, bend_at, right_at, again_at, bend_fault};
-ghost use Rattle.hall.specs.Outlines.{outline_of, EachNear, Tells};
+ghost use Rattle.hall.specs.Format.{bends_left, right_of_none, not_again, bend_fault};
+ghost use Rattle.hall.specs.Outlines.{outline_of, within, Tells};
 
-use crate::refusals::Refusal;
+use crate::refusals::{Refusal, demand};
 use crate::rounds::after;
 use exact::points::Corner;
 use exact::sides::turn;
 
-// The value of side i at corner j.
-fn edge_at(corners: &[Corner], i: usize, j: usize) -> i64
-    requires near { EachNear 2047 corners.now }
-    requires side { i < length corners.now }
-    requires corner { j < length corners.now }
-    ensures { result ≡ edge (outline_of corners.now) i (at (corner (outline_of corners.now) j)) }
-{
-    turn(corners[i], corners[after(corners.len(), i)], corners[j])
+// Corners in order, the first of which begins at the byte `from`.
+#[derive(Clone, Copy)]
+pub(crate) struct Drawing<'a> {
+    pub corners: &'a [Corner],
+    pub from: usize,
+    ghost few: { length corners.now ≤ 8 },
+    ghost near: { T (within 2047 (outline_of corners.now)) },
+    ghost early: { from < 2 ^ 33 },
 }
 
-fn is_left_bend(corners: &[Corner], i: usize) -> bool
-    requires near { EachNear 2047 corners.now }
-    requires side { i < length corners.now }
-    ensures { result ≡ bends_left (outline_of corners.now) i }
-{
-    let n = corners.len();
-    edge_at(corners, i, after(n, after(n, i))) > 0
-}
-
-// Whether corner j is to the right of no side.
-fn is_covered(corners: &[Corner], j: usize) -> bool
-    requires near { EachNear 2047 corners.now }
-    requires corner { j < length corners.now }
-    ensures { result ≡ right_of_none (outline_of corners.now) j }
-{
-    for i in 0..corners.len() {
-        if edge_at(corners, i, j) < 0 {
-            return false;
-        }
+impl Drawing<'_> {
+    // The value of side i at corner j.
+    fn edge(&self, i: usize, j: usize) -> i64
+        requires side { i < length self.now.corners.now }
+        requires corner { j < length self.now.corners.now }
+        ensures { result ≡ edge (outline_of self.now.corners.now) i (at (corner (outline_of self.now.corners.now) j)) }
+    {
+        let corners = self.corners;
+        turn(corners[i], corners[after(corners.len(), i)], corners[j])
     }
-    true
-}
 
-fn same_corner(a: Corner, b: Corner) -> bool
-    ensures { result ≡ same_corner (corner_of a) (corner_of b) }
-{
-    a.x == b.x && a.y == b.y
-}
-
-// Whether corner j isn't corner 0 again.
-fn is_new(corners: &[Corner], j: usize) -> bool
-    requires { j < length corners.now }
-    ensures { result ≡ not_again (outline_of corners.now) j }
-{
-    j == 0 || !same_corner(corners[j], corners[0])
-}
-
-fn first_bend(corners: &[Corner], from: usize) -> Result<(), Refusal>
-    requires near { EachNear 2047 corners.now }
-    requires few { length corners.now ≤ 8 }
-    requires from { from < 2 ^ 32 }
-    ensures { Tells result (first_below (length corners.now) (bend_at (outline_of corners.now) from)) }
-{
-    let n = corners.len();
-    for k in 0..n {
-        if !is_left_bend(corners, k) {
-            return Err(Refusal::Bend(from + 4 * after(n, k)));
-        }
+    // Whether the bend after side i is to the left.
+    fn bends_left(&self, i: usize) -> bool
+        requires { i < length self.now.corners.now }
+        ensures { result ≡ bends_left (outline_of self.now.corners.now) i }
+    {
+        let n = self.corners.len();
+        self.edge(i, after(n, after(n, i))) > 0
     }
-    Ok(())
-}
 
-fn first_right(corners: &[Corner], from: usize) -> Result<(), Refusal>
-    requires near { EachNear 2047 corners.now }
-    requires few { length corners.now ≤ 8 }
-    requires from { from < 2 ^ 32 }
-    ensures { Tells result (first_below (length corners.now) (right_at (outline_of corners.now) from)) }
-{
-    for k in 0..corners.len() {
-        if !is_covered(corners, k) {
-            return Err(Refusal::Bend(from + 4 * k));
-        }
+    // Whether corner j is to the right of no side.
+    fn covers(&self, j: usize) -> bool
+        requires { j < length self.now.corners.now }
+        ensures { result ≡ right_of_none (outline_of self.now.corners.now) j }
+    {
+        (0..self.corners.len()).all(|i| self.edge(i, j) >= 0)
     }
-    Ok(())
-}
 
-fn first_again(corners: &[Corner], from: usize) -> Result<(), Refusal>
-    requires few { length corners.now ≤ 8 }
-    requires from { from < 2 ^ 32 }
-    ensures { Tells result (first_below (length corners.now) (again_at (outline_of corners.now) from)) }
-{
-    for k in 0..corners.len() {
-        if !is_new(corners, k) {
-            return Err(Refusal::Bend(from + 4 * k));
-        }
+    // Whether corner j isn't corner 0 again.
+    fn is_new(&self, j: usize) -> bool
+        requires { j < length self.now.corners.now }
+        ensures { result ≡ not_again (outline_of self.now.corners.now) j }
+    {
+        j == 0 || self.corners[j] != self.corners[0]
     }
-    Ok(())
-}
 
-// Refuses corners, the first of which begins at the byte `from`, that don't make a sound shape.
-pub(crate) fn check_bends(corners: &[Corner], from: usize) -> Result<(), Refusal>
-    requires near { EachNear 2047 corners.now }
-    requires few { length corners.now ≤ 8 }
-    requires from { from < 2 ^ 32 }
-    ensures { Tells result (bend_fault (outline_of corners.now) from) }
-{
-    first_bend(corners, from)?;
-    first_right(corners, from)?;
-    first_again(corners, from)
+    // The refusal of corner k.
+    fn bend(&self, k: usize) -> Refusal
+        requires { k < 8 }
+        ensures { result ≡ Refusal.Bend (self.now.from + 4 * k) }
+    {
+        Refusal::Bend(self.from + 4 * k)
+    }
+
+    // Refuses corners that don't make a sound shape.
+    pub(crate) fn check(&self) -> Result<(), Refusal>
+        ensures { Tells result (bend_fault (outline_of self.now.corners.now) self.now.from) }
+    {
+        let n = self.corners.len();
+        (0..n).try_for_each(|k| demand(self.bends_left(k), self.bend(after(n, k))))?;
+        (0..n).try_for_each(|k| demand(self.covers(k), self.bend(k)))?;
+        (0..n).try_for_each(|k| demand(self.is_new(k), self.bend(k)))
+    }
 }

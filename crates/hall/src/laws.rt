@@ -2,36 +2,26 @@
 ghost use Rattle.hall.specs.Laws.{TaskReadsBack, TaskWritesBack, WayReadsBack, WayWritesBack, SoundDecided};
 
 // A task that fits, once written, is taken, and read as the same task.
-pub fn task_reads_back() -> u8
+pub fn task_reads_back()
     ensures { TaskReadsBack }
-{
-    0
-}
+{}
 
 // Bytes that are taken are those of the task that is read from them.
-pub fn task_writes_back() -> u8
+pub fn task_writes_back()
     ensures { TaskWritesBack }
-{
-    0
-}
+{}
 
 // A way that fits, once written, is taken, and read as the same way.
-pub fn way_reads_back() -> u8
+pub fn way_reads_back()
     ensures { WayReadsBack }
-{
-    0
-}
+{}
 
 // Bytes that are taken are those of the way that is read from them.
-pub fn way_writes_back() -> u8
+pub fn way_writes_back()
     ensures { WayWritesBack }
-{
-    0
-}
+{}
 
 // The test of a shape holds exactly of the sound ones.
-pub fn sound_decided() -> u8
+pub fn sound_decided()
     ensures { SoundDecided }
-{
-    0
-}
+{}

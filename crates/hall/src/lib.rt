@@ -11,5 +11,6 @@ pub mod refusals;
 pub mod rounds;
 pub mod routes;
 pub mod shapes;
+pub mod sides;
 mod views;
 mod writer;

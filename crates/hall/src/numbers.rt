@@ -1,46 +1,63 @@
 // Numbers in bytes, low byte first. Past the end there are zeros, so that nothing is read out of bounds.
-ghost use Rattle.std.specs.Prelude.{◌≡◌, ◌^◌, ◌<◌};
+ghost use Rattle.std.specs.Prelude.{◌≡◌, ℕ, ◌+◌, ◌^◌, ◌<◌, slice_index};
 ghost use Rattle.hall.specs.Bytes.{byte, little, signed_2, signed_8};
 
-pub(crate) fn byte_at(bytes: &[u8], i: usize) -> u8
-    ensures { result ≡ byte bytes.now i }
-{
-    if i < bytes.len() { bytes[i] } else { 0 }
+use std::array::from_fn;
+
+// The bytes from number `at` on.
+#[derive(Clone, Copy)]
+pub(crate) struct Tail<'a> {
+    pub bytes: &'a [u8],
+    pub at: u32,
 }
 
-pub(crate) fn u16_at(bytes: &[u8], i: usize) -> u16
-    requires { i < 2 ^ 32 }
-    ensures { result ≡ little 2 bytes.now i }
-{
-    u16::from_le_bytes([byte_at(bytes, i), byte_at(bytes, i + 1)])
-}
+impl Tail<'_> {
+    // The number of the byte that stands k further on.
+    pub(crate) fn index(&self, k: u16) -> usize
+        ensures value { result ≡ self.now.at + k }
+        ensures bound { result < 2 ^ 33 }
+    {
+        self.at as usize + usize::from(k)
+    }
 
-pub(crate) fn i16_at(bytes: &[u8], i: usize) -> i64
-    requires { i < 2 ^ 32 }
-    ensures { result ≡ signed_2 bytes.now i }
-{
-    i64::from(u16_at(bytes, i).cast_signed())
-}
+    fn bytes_at<const N: usize>(&self, k: u16) -> [u8; N]
+        requires { N < 2 ^ 32 }
+        ensures { (i : ℕ) → i < N → slice_index result i ≡ byte self.now.bytes.now (self.now.at + k + i) }
+    {
+        let from = self.index(k);
+        from_fn(|i| self.bytes.get(from + i).copied().unwrap_or(0))
+    }
 
-pub(crate) fn u64_at(bytes: &[u8], i: usize) -> u64
-    requires { i < 2 ^ 32 }
-    ensures { result ≡ little 8 bytes.now i }
-{
-    u64::from_le_bytes([
-        byte_at(bytes, i),
-        byte_at(bytes, i + 1),
-        byte_at(bytes, i + 2),
-        byte_at(bytes, i + 3),
-        byte_at(bytes, i + 4),
-        byte_at(bytes, i + 5),
-        byte_at(bytes, i + 6),
-        byte_at(bytes, i + 7),
-    ])
-}
+    pub(crate) fn byte(&self) -> u8
+        ensures { result ≡ byte self.now.bytes.now self.now.at }
+    {
+        self.bytes.get(self.at as usize).copied().unwrap_or(0)
+    }
 
-pub(crate) fn i64_at(bytes: &[u8], i: usize) -> i64
-    requires { i < 2 ^ 32 }
-    ensures { result ≡ signed_8 bytes.now i }
-{
-    u64_at(bytes, i).cast_signed()
+    #[tactic(auto, unfolding(crate::specs::Bytes::little))]
+    pub(crate) fn u16(&self, k: u16) -> u16
+        ensures { result ≡ little 2 self.now.bytes.now (self.now.at + k) }
+    {
+        u16::from_le_bytes(self.bytes_at(k))
+    }
+
+    // Two bytes with sign, in a wider number.
+    pub(crate) fn i16(&self, k: u16) -> i64
+        ensures { result ≡ signed_2 self.now.bytes.now (self.now.at + k) }
+    {
+        i64::from(self.u16(k).cast_signed())
+    }
+
+    #[tactic(auto, unfolding(crate::specs::Bytes::little))]
+    pub(crate) fn u64(&self, k: u16) -> u64
+        ensures { result ≡ little 8 self.now.bytes.now (self.now.at + k) }
+    {
+        u64::from_le_bytes(self.bytes_at(k))
+    }
+
+    pub(crate) fn i64(&self, k: u16) -> i64
+        ensures { result ≡ signed_8 self.now.bytes.now (self.now.at + k) }
+    {
+        self.u64(k).cast_signed()
+    }
 }

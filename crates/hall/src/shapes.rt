@@ -5,7 +5,8 @@ ghost use Rattle.hall.specs.Outlines.{outline, within};
 
 use exact::points::Corner;
 
-// A sound shape of at most N corners, each below 2,048 in size.
+// A sound shape of at most N corners, each below 2,048 in size. The corners are an array beside their count, and no `Vec`: shapes are copied and take
+// no memory that could be wanting.
 #[derive(Clone, Copy)]
 pub struct Shape<const N: usize> {
     pub(crate) corners: [Corner; N],

@@ -2,10 +2,10 @@
 ghost use Rattle.std.specs.Prelude.{◌≡◌, ◌^◌, ◌<◌, ◌≤◌, T, map, length, IfOk, vec_len};
 ghost use Rattle.algebra.specs.Hall.{corner, next};
 ghost use Rattle.exact.specs.Points.{corner_of, place_of};
-ghost use Rattle.exact.specs.Sides.{CornerNear, SideNear};
+ghost use Rattle.exact.specs.Sides.{CornerNear};
 ghost use Rattle.hall.specs.Format.{sound};
 ghost use Rattle.hall.specs.Halls.{task_of};
-ghost use Rattle.hall.specs.Outlines.{outline, within, bounded};
+ghost use Rattle.hall.specs.Outlines.{outline, outline_of, within, bounded};
 ghost use Rattle.hall.specs.Shapes.{shape_of, drawn_within, all_within};
 
 use crate::halls::Hall;
@@ -40,12 +40,19 @@ impl<const N: usize> Shape<N> {
         self.corners[i]
     }
 
+    // The corners, in their order.
+    pub fn corners(&self) -> &[Corner]
+        ensures value { outline_of result.now ≡ shape_of self.now }
+        ensures near { T (within 2047 (outline_of result.now)) }
+    {
+        &self.corners[..usize::from(self.count)]
+    }
+
     // The side from corner i to the next.
     pub fn side(&self, i: usize) -> Side
         requires { i < length (shape_of self.now) }
         ensures from { corner_of result.from ≡ corner (shape_of self.now) i }
         ensures to { corner_of result.to ≡ corner (shape_of self.now) (next (length (shape_of self.now)) i) }
-        ensures bound { SideNear 2047 result }
     {
         Side {
             from: self.corner(i),

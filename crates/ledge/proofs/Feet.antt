@@ -91,6 +91,12 @@ gap_values f g p r = by_ring (of_form f (of_form g (of_place p []))) (search for
 back : (f g : Form) (p : Place) → Rises f → Rises g → value g (foot f p) ≡ neg_ℤ (value f (foot g p))
 back f g p rf rg = rw (values f p rf g, values g p rg f) (by_ring (f.b ∷ g.b ∷ value f p ∷ value g p ∷ []) (search forms depth 60 fits 99999) refl)
 
+-- how much higher the foot on g's line is than that on f's, times both denominators
+pub rise : (f g : Form) (p : Place) → Rises f → Rises g →
+    ((foot g p).y *ℤ pos (foot f p).w) -ℤ ((foot f p).y *ℤ pos (foot g p).w) ≡ pos p.w *ℤ value f (foot g p)
+unfolding foot value
+rise f g p rf rg = rw (weight f p rf, weight g p rg) (by_ring (of_form f (of_form g (of_place p []))) (search forms depth 60 fits 99999) refl)
+
 -- g's rise times the value of h at f's foot is put together from the two steps, from f to g and from g to h
 over : (f g h : Form) (p : Place) → Rises f → Rises g → g.b *ℤ value h (foot f p) ≡ (f.b *ℤ value h (foot g p)) +ℤ (h.b *ℤ value g (foot f p))
 over f g h p rf rg =

@@ -1,28 +1,32 @@
 -- How high a place is over a surface, its foot there, and which of several surfaces is its floor. Assumes nothing.
-use Rattle.std.proofs.Common.{◌≡◌, ℕ, ◌+◌, ◌*◌, ◌<◌, ◌≤◌, List, [], length, map, ℤ, pos, ◌-ℤ◌, ◌*ℤ◌, nat_abs, ◌≤ℤ◌, ◌<ℤ◌, sym, refl, ap, ◌∙◌, subst, ap₂, ⊎_elim, arith}
+use Rattle.std.proofs.Common.{◌≡◌, ℕ, ◌+◌, ◌*◌, ◌<◌, ◌≤◌, List, [], length, ℤ, pos, ◌-ℤ◌, ◌*ℤ◌, nat_abs, ◌≤ℤ◌, ◌<ℤ◌, Decides, Ordering, sym, refl, ◌∙◌, subst, ap₂, ⊎_elim, arith}
 use borrow.Author.Differences.{ints}
+use Rattle.std.specs.Ordering.{MatchOrdering, is_le}
 use Rattle.std.proofs.lemmas.Int.{by_lt_z}
 use Rattle.std.proofs.lemmas.Bool.{cases_eq}
-use Rattle.std.proofs.lemmas.List.{length-map}
 use Rattle.std.proofs.Math.Nat.{mul-le-mul_left, mul-le-mul_right}
-use Rattle.algebra.specs.Hall.{Corner, Place, Shape, Hall, Within, side, corner}
-use Rattle.algebra.specs.Forms.{value, line}
+use Rattle.algebra.specs.Hall.{Corner, Place, Shape, Hall, Within}
+use Rattle.algebra.specs.Forms.{Form, value, line}
 use Rattle.algebra.proofs.Polynomial.{forms, by_ring}
+use Rattle.algebra.proofs.Order.{pos>0, factor>0, factor≡0, factor<0}
 use Rattle.algebra.proofs.Forms.{of_corner, of_place}
+use Rattle.exact.specs.declared.points.Place as code_place
+use Rattle.exact.specs.declared.points.Side.{Side}
+use Rattle.exact.specs.Points.{corner_of, place_of}
+use Rattle.exact.specs.Orders.{Over, Lower, Level}
+use Rattle.exact.proofs.Bounds.{ranked_map}
 use Rattle.exact.proofs.Crossings.{size_up}
-use Rattle.hall.specs.declared.shapes.Shape.{Shape as Shaped}
-use Rattle.hall.specs.Shapes.{shape_of}
 use Rattle.ledge.specs.declared.surfaces.Surface as code
 use Rattle.ledge.specs.declared.surfaces.Surface.TheVariants as code_case
-use Rattle.ledge.specs.Heights.{foot}
-use Rattle.ledge.specs.Landings.{Under, Higher, Floors}
-use Rattle.ledge.specs.Lines.{surface_of, number, Numbered}
-use Rattle.ledge.specs.Sides.{end}
-use Rattle.ledge.specs.Surfaces.{Surface, bottom, top, above, obstacle, Stands, Holds}
-use Rattle.ledge.proofs.Feet.{feet, gaps}
+use Rattle.ledge.specs.Heights.{Rises, foot}
+use Rattle.ledge.specs.Landings.{Under, Higher, Floors, form_of}
+use Rattle.ledge.specs.Lines.{surface_of, number, Numbered, Unnumbered}
+use Rattle.ledge.specs.Surfaces.{Surface, bottom, top, above, Stands, Holds}
+use Rattle.ledge.proofs.Feet.{feet, gaps, rise}
 use Rattle.ledge.proofs.Lining.{line_side}
-use Rattle.ledge.proofs.Numbering.{few_sides}
-use Rattle.ledge.proofs.Standing.{rises, stands, bottom_value, bottom_holds}
+use Rattle.ledge.proofs.Numbering.{FewSides}
+use Rattle.ledge.proofs.Sharing.{at_most}
+use Rattle.ledge.proofs.Standing.{rises, stands, bottom_holds}
 
 -- ---- a foot, by its parts
 parts : (x y v z : ℤ) (w u : ℕ) → x ≡ v → y ≡ z → w ≡ u → ◌≡◌ {A = Place} (record { x = x; y = y; w = w }) (record { x = v; y = z; w = u })
@@ -43,37 +47,68 @@ run_size z h k = let e = size_up z (omega (arith, ints)) in (omega (arith, ints,
 pub times_most : (m n : ℕ) → m ≤ 4094 → n ≤ 1048576 → m * n ≤ 8589934592
 times_most m n h k = omega (arith, mul-le-mul_left m k, mul-le-mul_right 1048576 h)
 
--- ---- the form of a surface of the code at a place
-module _ (gs : List Shape) (s : code.Surface) (p : Place) where
-  pub bottom_gap : s ≡ code_case.Bottom → value (above gs (surface_of s)) p ≡ p.y
-  bottom_gap e = ap (λ (r : code.Surface). value (above gs (surface_of r)) p) e ∙ bottom_value gs p
+-- ---- the forms of lines that run to the right
+module _ (a b : Corner) where
+  pub slope_rises : a.x <ℤ b.x → Rises (line a b)
+  unfolding line
+  slope_rises h = omega (arith, ints)
 
-  pub bottom_foot : s ≡ code_case.Bottom → (q : Place) → q.x ≡ p.x → q.y ≡ pos 0 → q.w ≡ p.w → q ≡ foot (above gs (surface_of s)) p
-  unfolding foot
-  bottom_foot e q f g w =
-      parts q.x q.y (foot (above gs bottom) p).x (foot (above gs bottom) p).y q.w (foot (above gs bottom) p).w
-      (f ∙ by_ring (of_place p []) (search forms depth 60 fits 99999) refl)
-      (g ∙ by_ring (of_place p []) (search forms depth 60 fits 99999) refl)
-      (omega arith)
-      ∙ ap (λ (r : code.Surface). foot (above gs (surface_of r)) p) (sym e)
+-- that of the bottom wall
+pub bottom_form : line (record { x = pos 0; y = pos 0 }) (record { x = pos 1; y = pos 0 }) ≡ above [] bottom
+unfolding line
+bottom_form = refl
 
-  module _ (k i : ℕ) (e : s ≡ code_case.Top k i) where
-    pub top_gap : value (above gs (surface_of s)) p ≡ side (end (obstacle gs k) i) (corner (obstacle gs k) i) p
-    top_gap = ap (λ (r : code.Surface). value (above gs (surface_of r)) p) e ∙ line_side (end (obstacle gs k) i) (corner (obstacle gs k) i) p
+-- the bottom wall holds up every place of the hall
+pub bottom_up : (gs : List Shape) (s : code.Surface) (p : Place) (h : Hall) → s ≡ code_case.Bottom → Within h p → Holds h gs (surface_of s) p
+bottom_up gs s p h e w = subst (λ (r : code.Surface). Holds h gs (surface_of r) p) (sym e) (bottom_holds h gs p w)
 
-    pub top_run : (above gs (surface_of s)).b ≡ (corner (obstacle gs k) i).x -ℤ (end (obstacle gs k) i).x
-    unfolding line
-    top_run = ap (λ (r : code.Surface). (above gs (surface_of r)).b) e
+-- ---- which of two sides that run to the right is lower over an abscissa
+-- the foot is over it, and on the line
+over_foot : (s : Side) (here : code_place.Place) → s.from.x <ℤ s.to.x → 0 < here.w → Over s here (foot (form_of s) (place_of here))
+over_foot s here r w =
+    let f = form_of s in
+    let p = place_of here in
+    let k = slope_rises (corner_of s.from) (corner_of s.to) r in
+    record {
+      real = feet.real f p k w;
+      line = sym (line_side (corner_of s.from) (corner_of s.to) (foot f p)) ∙ feet.level f p k;
+      above = feet.abreast f p k;
+    }
 
-    module _ (h : Hall) where
-      pub to_top : Holds h gs (surface_of s) p → Holds h gs (top k i) p
-      to_top = subst (λ (r : code.Surface). Holds h gs (surface_of r) p) e
+-- what that says of the one line's form at the foot on the other
+module _ (s t : Side) (here : code_place.Place) (rs : s.from.x <ℤ s.to.x) (rt : t.from.x <ℤ t.to.x) (w : 0 < here.w) where
+  abbrev f : Form
+  f = form_of s
 
-      pub from_top : Holds h gs (top k i) p → Holds h gs (surface_of s) p
-      from_top = subst (λ (r : code.Surface). Holds h gs (surface_of r) p) (sym e)
+  abbrev g : Form
+  g = form_of t
 
-  pub bottom_up : (h : Hall) → s ≡ code_case.Bottom → Within h p → Holds h gs (surface_of s) p
-  bottom_up h e w = subst (λ (r : code.Surface). Holds h gs (surface_of r) p) (sym e) (bottom_holds h gs p w)
+  abbrev p : Place
+  p = place_of here
+
+  rise_at : ((foot g p).y *ℤ pos (foot f p).w) -ℤ ((foot f p).y *ℤ pos (foot g p).w) ≡ pos here.w *ℤ value f (foot g p)
+  rise_at = rise f g p (slope_rises (corner_of s.from) (corner_of s.to) rs) (slope_rises (corner_of t.from) (corner_of t.to) rt)
+
+  over_first : Over s here (foot f p)
+  over_first = over_foot s here rs w
+
+  over_second : Over t here (foot g p)
+  over_second = over_foot t here rt w
+
+  lower_at : Lower s t here → pos 0 <ℤ value f (foot g p)
+  unfolding Lower
+  lower_at h = factor>0 (pos here.w) (value f (foot g p)) (pos>0 here.w w) (omega (arith, ints, rise_at, h (foot f p) (foot g p) over_first over_second))
+
+  level_at : Level s t here → pos 0 ≡ value f (foot g p)
+  unfolding Level
+  level_at h = sym (factor≡0 (pos here.w) (value f (foot g p)) (pos>0 here.w w) (omega (arith, ints, rise_at, h (foot f p) (foot g p) over_first over_second)))
+
+  higher_at : Lower t s here → value f (foot g p) <ℤ pos 0
+  unfolding Lower
+  higher_at h = factor<0 (pos here.w) (value f (foot g p)) (pos>0 here.w w) (omega (arith, ints, rise_at, h (foot g p) (foot f p) over_second over_first))
+
+  pub not_higher_at : (r : Ordering) → MatchOrdering r (Lower s t here) (Level s t here) (Lower t s here) → Decides (is_le r) (pos 0 ≤ℤ value f (foot g p))
+  not_higher_at r h = at_most r (pos 0) (value f (foot g p)) (ranked_map r h lower_at level_at higher_at)
 
 -- ---- which of two surfaces is higher over an abscissa
 module _ (gs : List Shape) (p : Place) (real : 0 < p.w) where
@@ -104,11 +139,11 @@ pub record Best (h : Hall) (gs : List Shape) (p : Place) (n : ℕ) (s : Surface)
   pub holds : Holds h gs s p
   pub highest : (t : Surface) → Holds h gs t p → number t < n → Under gs p t s
 
-module _ (os : List (Shaped 16)) where
-  side_few : (k i : ℕ) → Stands (map shape_of os) (top k i) → i < 16
-  side_few k i st = omega (arith, st.1.within, few_sides os k (omega (arith, st.0, length-map os shape_of)))
+module _ (gs : List Shape) (few : FewSides gs) where
+  side_few : (k i : ℕ) → Stands gs (top k i) → i < 16
+  side_few k i st = omega (arith, st.1.within, few k st.0)
 
-  pub same_number : (s t : Surface) → Stands (map shape_of os) s → Stands (map shape_of os) t → number s ≡ number t → s ≡ t
+  pub same_number : (s t : Surface) → Stands gs s → Stands gs t → number s ≡ number t → s ≡ t
   same_number bottom bottom a b e = refl
   same_number bottom (top k i) a b e = absurd (omega arith)
   same_number (top k i) bottom a b e = absurd (omega arith)
@@ -119,18 +154,27 @@ module _ (os : List (Shaped 16)) where
       let g : i ≡ j = omega arith in
       ap₂ top f g
 
-  pub number_below : (s : Surface) → Stands (map shape_of os) s → number s < 16 * length os + 1
+  pub number_below : (s : Surface) → Stands gs s → number s < 16 * length gs + 1
   number_below bottom a = omega arith
-  number_below (top k i) a = omega (arith, side_few k i a, a.0, length-map os shape_of)
+  number_below (top k i) a = omega (arith, side_few k i a, a.0)
 
-  module _ (h : Hall) (p : Place) (real : 0 < p.w) where
-    pub best_none : Within h p → Best h (map shape_of os) p 0 bottom
-    best_none w = record { holds = bottom_holds h (map shape_of os) p w; highest = λ t k l. absurd (omega arith) }
+module _ (h : Hall) (gs : List Shape) (p : Place) (real : 0 < p.w) where
+  pub best_none : Within h p → Best h gs p 0 bottom
+  best_none w = record { holds = bottom_holds h gs p w; highest = λ t k l. absurd (omega arith) }
 
-    module _ (n : ℕ) (s : Surface) (best : Best h (map shape_of os) p n s) where
-      pub best_more : (t r : Surface) → Numbered (map shape_of os) n t → Higher h (map shape_of os) p s t r → Best h (map shape_of os) p (n + 1) r
+  module _ (few : FewSides gs) where
+    module _ (n : ℕ) (s : Surface) (best : Best h gs p n s) where
+      -- no surface has number n
+      pub best_pass : Unnumbered gs n → Best h gs p (n + 1) s
+      best_pass none =
+          record {
+            holds = best.holds;
+            highest = λ x k l.
+                ⊎_elim (λ e. absurd (none x (record { stands = stands h gs x p k.reaches; is = e }))) (λ e. best.highest x k (omega arith)) (cases_eq (number x) n);
+          }
+
+      pub best_more : (t r : Surface) → Numbered gs n t → Higher h gs p s t r → Best h gs p (n + 1) r
       best_more t r m o =
-          let gs = map shape_of os in
           let sr = stands h gs r p o.holds.reaches in
           let ss = stands h gs s p best.holds.reaches in
           record {
@@ -139,15 +183,15 @@ module _ (os : List (Shaped 16)) where
                 let sx = stands h gs x p k.reaches in
                 ⊎_elim
                 (λ e.
-                let f = same_number x t sx m.stands (e ∙ sym m.is) in
+                let f = same_number gs few x t sx m.stands (e ∙ sym m.is) in
                 subst (λ (y : Surface). Under gs p y r) (sym f) (o.second (subst (λ (y : Surface). Holds h gs y p) f k)))
                 (λ e. under_trans gs p real x s r sx ss sr (best.highest x k (omega arith)) o.first)
                 (cases_eq (number x) n);
           }
 
-    pub best_floors : (s : Surface) → Best h (map shape_of os) p (16 * length os + 1) s → Floors h (map shape_of os) p s
-    best_floors s best =
+    pub best_floors : (n : ℕ) (s : Surface) → 16 * length gs < n → Best h gs p n s → Floors h gs p s
+    best_floors n s l best =
         record {
           holds = best.holds;
-          highest = λ t k. best.highest t k (number_below t (stands h (map shape_of os) t p k.reaches));
+          highest = λ t k. best.highest t k (omega (arith, number_below gs few t (stands h gs t p k.reaches)));
         }

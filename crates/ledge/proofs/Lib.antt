@@ -25,6 +25,7 @@ pub mod Covering
 pub mod Landing
 pub mod Tips
 pub mod Filling
+pub mod Choosing
 pub mod Placing
 pub mod Mapping
 pub mod Ledging

@@ -1,108 +1,86 @@
 -- What bars the places of a surface: how far its ends are beyond a wall, and the shadows of all bars together. Assumes nothing.
-use Rattle.std.proofs.Common.{◌≡◌, ℕ, zero, suc, ◌+◌, ◌-◌, ◌*◌, ◌<◌, ◌≤◌, List, [], ◌∷◌, length, get_or, ℤ, pos, ◌+ℤ◌, ◌-ℤ◌, ◌*ℤ◌, neg_ℤ, Some, None, Option, sym, refl, ◌∙◌, subst, ap₂, ⊎_elim, arith, MatchOption}
+use Rattle.std.proofs.Common.{◌≡◌, ℕ, zero, suc, ◌+◌, ◌-◌, ◌*◌, ◌<◌, ◌≤◌, List, [], ◌∷◌, length, get_or, slice_index_or, ℤ, pos, ◌+ℤ◌, ◌-ℤ◌, ◌*ℤ◌, ◌<ℤ◌, Some, None, Option, sym, refl, ◌∙◌, subst, ap₂, ⊎_elim, arith, MatchOption}
+use denote.Param.Members.{Mut, Called}
+use Rattle.std.specs.Array.{IsFromFnResult, IsFromFnResultFrom}
 use borrow.Author.Differences.{ints}
-use Rattle.std.proofs.lemmas.Bool.{cases_eq, cases_lt}
-use Rattle.std.proofs.lemmas.List.{length-replicate, get_or_past, get_or-replicate, get_or-set_same, get_or-set_other, length-set}
-use Rattle.std.proofs.Math.ListN.{set, replicate}
+use Rattle.std.proofs.lemmas.Bool.{cases_lt}
+use Rattle.std.proofs.lemmas.List.{get_or_past}
 use Rattle.std.proofs.lemmas.Int.{by_lt_z}
 use Rattle.algebra.specs.Hall.{Corner, Place, Shape, Hall, at, between}
+use Rattle.algebra.specs.Near.{Near}
 use Rattle.algebra.proofs.Polynomial.{forms, by_ring}
 use Rattle.algebra.proofs.Forms.{of_corner}
 use Rattle.obstacle.specs.Freedom.{Clear, Apart}
-use Rattle.exact.specs.declared.meets.Ends.{Ends}
-use Rattle.exact.specs.declared.points.Side.{Side}
+use Rattle.exact.specs.declared.points.Ends.{Ends}
+use Rattle.exact.specs.declared.points.Corner as exact
 use Rattle.exact.specs.Points.{corner_of}
-use Rattle.exact.specs.Sides.{SideNear}
+use Rattle.exact.specs.Sides.{CornerNear}
+use Rattle.ledge.specs.declared.lights.Wall.{Wall}
+use Rattle.ledge.specs.declared.lights.Wall.TheVariants.{Left, Right, Lower, Upper}
 use Rattle.ledge.specs.declared.shadows.Shadow.{Shadow}
 use Rattle.ledge.specs.Coverage.{AllOpen}
-use Rattle.ledge.specs.Lights.{Barred, WallEnds, Bars, Lights}
+use Rattle.ledge.specs.Lights.{past, wall_number, Barred, Bars, Lights}
 use Rattle.ledge.specs.Runs.{Lit, Shaded}
-use Rattle.ledge.specs.Shadows.{Opens, reading, Cut, Gone, Casts}
+use Rattle.ledge.specs.Shadows.{Dark, Opens, reading, Cut, Gone, Casts}
 use Rattle.ledge.specs.Surfaces.{obstacle}
 
--- ---- the walls: a form's reading at a spot, from how far the ends are beyond the wall
-module _ (a b : Corner) (t u : ℕ) where
-  low_x : ((pos 0 -ℤ a.x) *ℤ pos u) +ℤ ((pos 0 -ℤ b.x) *ℤ pos t) ≡ neg_ℤ (between (at a) (at b) t u).x
-  unfolding between
-  low_x = by_ring (of_corner a (of_corner b (pos t ∷ pos u ∷ []))) (search forms depth 60 fits 99999) refl
+-- ---- `from_fn` with a closure that changes nothing: what each call gave
+from_fn_gave : {F B : Type 0} (g : Mut F (ℕ × Unit {0}) B) (P : ℕ → B → Type 0) (f : F) → ((i : ℕ) (y : B) (q : F) → Called g f (i, tt) y q → P i y × (q ≡ f)) →
+    (n i : ℕ) (ys : List B) → IsFromFnResultFrom g f ys i n → (k : ℕ) → k < n → (d : B) → P (i + k) (slice_index_or ys (i + k) d)
+from_fn_gave g P f gives zero i ys r k l d = absurd (omega arith)
+from_fn_gave g P f gives (suc n) i ys (q, y, is, call, rest) zero l d = let e : i + 0 ≡ i = omega arith in rw (e, is.1 d) (gives i y q call).0
+from_fn_gave g P f gives (suc n) i ys (q, y, is, call, rest) (suc k) l d =
+    let e : i + 1 + k ≡ i + suc k = omega arith in
+    rw (← e) (from_fn_gave g P f gives n (i + 1) ys (rw (← (gives i y q call).1) rest) k (omega arith) d)
 
-  low_y : ((pos 0 -ℤ a.y) *ℤ pos u) +ℤ ((pos 0 -ℤ b.y) *ℤ pos t) ≡ neg_ℤ (between (at a) (at b) t u).y
-  unfolding between
-  low_y = by_ring (of_corner a (of_corner b (pos t ∷ pos u ∷ []))) (search forms depth 60 fits 99999) refl
+from_fn_at : {F B : Type 0} (g : Mut F (ℕ × Unit {0}) B) (P : ℕ → B → Type 0) (f : F) → ((i : ℕ) (y : B) (q : F) → Called g f (i, tt) y q → P i y × (q ≡ f)) →
+    (n k : ℕ) (ys : List B) → IsFromFnResultFrom g f ys 0 n → k < n → (d : B) → P k (slice_index_or ys k d)
+from_fn_at g P f gives n k ys r l d = let e : 0 + k ≡ k = omega arith in rw e at (from_fn_gave g P f gives n 0 ys r k l d)
 
-  high_x : (n : ℕ) → ((a.x -ℤ pos n) *ℤ pos u) +ℤ ((b.x -ℤ pos n) *ℤ pos t) ≡ (between (at a) (at b) t u).x -ℤ pos (n * (between (at a) (at b) t u).w)
-  unfolding between
-  high_x n = by_ring (of_corner a (of_corner b (pos n ∷ pos t ∷ pos u ∷ []))) (search forms depth 60 fits 99999) refl
+-- ---- the walls
+-- how far a place is beyond a wall is a linear form of it
+past_along : (h : Hall) (w : Wall) (a b : Corner) (t u : ℕ) → (past h w (at a) *ℤ pos u) +ℤ (past h w (at b) *ℤ pos t) ≡ past h w (between (at a) (at b) t u)
+unfolding between
+past_along h Left a b t u = by_ring (of_corner a (of_corner b (pos t ∷ pos u ∷ []))) (search forms depth 60 fits 99999) refl
+past_along h Right a b t u = by_ring (of_corner a (of_corner b (pos h.wide ∷ pos t ∷ pos u ∷ []))) (search forms depth 60 fits 99999) refl
+past_along h Lower a b t u = by_ring (of_corner a (of_corner b (pos t ∷ pos u ∷ []))) (search forms depth 60 fits 99999) refl
+past_along h Upper a b t u = by_ring (of_corner a (of_corner b (pos h.high ∷ pos t ∷ pos u ∷ []))) (search forms depth 60 fits 99999) refl
 
-  high_y : (n : ℕ) → ((a.y -ℤ pos n) *ℤ pos u) +ℤ ((b.y -ℤ pos n) *ℤ pos t) ≡ (between (at a) (at b) t u).y -ℤ pos (n * (between (at a) (at b) t u).w)
-  unfolding between
-  high_y n = by_ring (of_corner a (of_corner b (pos n ∷ pos t ∷ pos u ∷ []))) (search forms depth 60 fits 99999) refl
-
--- a reading with other values at the ends
-read_at : (e : Ends) (x y : ℤ) (t u : ℕ) → e.from ≡ x → e.to ≡ y → reading e t u ≡ (x *ℤ pos u) +ℤ (y *ℤ pos t)
-read_at e x y t u f g = ap₂ (λ (i j : ℤ). (i *ℤ pos u) +ℤ (j *ℤ pos t)) f g
-
-module _ (h : Hall) (s : Side) (near : SideNear 2047 s) (e : Ends) where
-  pub at_left : e.from ≡ pos 0 -ℤ s.from.x → e.to ≡ pos 0 -ℤ s.to.x → WallEnds h (corner_of s.from) (corner_of s.to) 0 e
-  at_left f g =
-      record {
-        near = record { low = omega (arith, ints, near.from.x, near.to.x); high = omega (arith, ints, near.from.x, near.to.x) };
-        beyond = λ gs t u _.
-            let k = read_at e (pos 0 -ℤ s.from.x) (pos 0 -ℤ s.to.x) t u f g ∙ low_x (corner_of s.from) (corner_of s.to) t u in
-            (λ p. omega (arith, ints, k), λ p. omega (arith, ints, k));
-      }
-
-  pub at_right : e.from ≡ s.from.x -ℤ pos h.wide → e.to ≡ s.to.x -ℤ pos h.wide → WallEnds h (corner_of s.from) (corner_of s.to) 1 e
-  at_right f g =
-      record {
-        near = record { low = omega (arith, ints, near.from.x, near.to.x); high = omega (arith, ints, near.from.x, near.to.x) };
-        beyond = λ gs t u _.
-            let k = read_at e (s.from.x -ℤ pos h.wide) (s.to.x -ℤ pos h.wide) t u f g ∙ high_x (corner_of s.from) (corner_of s.to) t u h.wide in
-            (λ p. omega (arith, ints, k), λ p. omega (arith, ints, k));
-      }
-
-  pub at_bottom : e.from ≡ pos 0 -ℤ s.from.y → e.to ≡ pos 0 -ℤ s.to.y → WallEnds h (corner_of s.from) (corner_of s.to) 2 e
-  at_bottom f g =
-      record {
-        near = record { low = omega (arith, ints, near.from.y, near.to.y); high = omega (arith, ints, near.from.y, near.to.y) };
-        beyond = λ gs t u _.
-            let k = read_at e (pos 0 -ℤ s.from.y) (pos 0 -ℤ s.to.y) t u f g ∙ low_y (corner_of s.from) (corner_of s.to) t u in
-            (λ p. omega (arith, ints, k), λ p. omega (arith, ints, k));
-      }
-
-  at_third : e.from ≡ s.from.y -ℤ pos h.high → e.to ≡ s.to.y -ℤ pos h.high → WallEnds h (corner_of s.from) (corner_of s.to) 3 e
-  at_third f g =
-      record {
-        near = record { low = omega (arith, ints, near.from.y, near.to.y); high = omega (arith, ints, near.from.y, near.to.y) };
-        beyond = λ gs t u _.
-            let k = read_at e (s.from.y -ℤ pos h.high) (s.to.y -ℤ pos h.high) t u f g ∙ high_y (corner_of s.from) (corner_of s.to) t u h.high in
-            (λ p. omega (arith, ints, k), λ p. omega (arith, ints, k));
-      }
-
-  -- there are four walls
-  pub at_top : (wall : ℕ) → 3 ≤ wall → e.from ≡ s.from.y -ℤ pos h.high → e.to ≡ s.to.y -ℤ pos h.high → WallEnds h (corner_of s.from) (corner_of s.to) wall e
-  at_top wall l f g =
-      ⊎_elim
-      (λ m. subst (λ (n : ℕ). WallEnds h (corner_of s.from) (corner_of s.to) n e) (sym m) (at_third f g))
-      (λ m.
-      record {
-        near = record { low = omega (arith, ints, near.from.y, near.to.y); high = omega (arith, ints, near.from.y, near.to.y) };
-        beyond = λ gs t u k. absurd (omega arith);
-      })
-      (cases_eq wall 3)
+pub past_near : (h : Hall) (w : Wall) (a b : exact.Corner) → CornerNear 2047 a → CornerNear 2047 b → Near 33521672 (past h w (at (corner_of a)) -ℤ past h w (at (corner_of b)))
+past_near h Left a b m n = record { low = omega (arith, ints, m.x, n.x); high = omega (arith, ints, m.x, n.x) }
+past_near h Right a b m n = record { low = omega (arith, ints, m.x, n.x); high = omega (arith, ints, m.x, n.x) }
+past_near h Lower a b m n = record { low = omega (arith, ints, m.y, n.y); high = omega (arith, ints, m.y, n.y) }
+past_near h Upper a b m n = record { low = omega (arith, ints, m.y, n.y); high = omega (arith, ints, m.y, n.y) }
 
 -- ---- the shadow of one bar
 module _ (h : Hall) (gs : List Shape) (a b : Corner) where
-  pub wall_bars : (j : ℕ) (e : Ends) → j < 4 → WallEnds h a b j e → (r : Option Shadow) →
-      MatchOption r (Gone (record { from = None; to = None }) e) (Cut (record { from = None; to = None }) e) → Bars h gs a b j r
-  unfolding Gone
-  wall_bars j e l w None n = λ t u s p. n t u s (record { after = tt; until = tt }) ((w.beyond gs t u l).1 p)
-  wall_bars j e l w (Some x) n =
-      record {
-        barred = λ t u s d. (w.beyond gs t u l).0 (n.less t u s d).1;
-        dark = λ t u s p. n.all t u s (record { after = tt; until = tt }) ((w.beyond gs t u l).1 p);
-        opens = n.opens;
-      }
+  barred_by : (w : Wall) (p : Place) → (Barred h gs (wall_number w) p → pos 0 <ℤ past h w p) × (pos 0 <ℤ past h w p → Barred h gs (wall_number w) p)
+  barred_by Left p = (λ d. d, λ d. d)
+  barred_by Right p = (λ d. d, λ d. d)
+  barred_by Lower p = (λ d. d, λ d. d)
+  barred_by Upper p = (λ d. d, λ d. d)
+
+  -- s is the whole surface, and e has the values at its ends
+  module _ (w : Wall) (s : Shadow) (e : Ends) (r : Option Shadow) (cut : MatchOption r (Gone s e) (Cut s e)) (open_from : s.from ≡ None) (open_to : s.to ≡ None)
+      (from : e.from ≡ past h w (at a)) (to : e.to ≡ past h w (at b)) where
+    read : (t u : ℕ) → reading e t u ≡ past h w (between (at a) (at b) t u)
+    read t u = ap₂ (λ (i j : ℤ). (i *ℤ pos u) +ℤ (j *ℤ pos t)) from to ∙ past_along h w a b t u
+
+    all_dark : (t u : ℕ) → Dark s t u
+    all_dark t u = record { after = rw open_from tt; until = rw open_to tt }
+
+    shadowed : (o : Option Shadow) → MatchOption o (Gone s e) (Cut s e) → Bars h gs a b (wall_number w) o
+    unfolding Gone
+    shadowed None n = λ t u q p. n t u q (all_dark t u) (rw read ((barred_by w _).0 p))
+    shadowed (Some x) n =
+        record {
+          barred = λ t u q d. (barred_by w _).1 (rw (← read t u) (n.less t u q d).1);
+          dark = λ t u q p. n.all t u q (all_dark t u) (rw read ((barred_by w _).0 p));
+          opens = n.opens;
+        }
+
+    pub wall_bars : (j : ℕ) → j ≡ wall_number w → Bars h gs a b j r
+    wall_bars j i = rw i (shadowed r cut)
 
   thing_at : (k : ℕ) (r : Option Shadow) → Casts (obstacle gs k) a b r → Bars h gs a b (suc (suc (suc (suc k)))) r
   thing_at k None n = n
@@ -127,43 +105,29 @@ module _ (h : Hall) (gs : List Shape) (a b : Corner) where
   clear_from p n =
       record {
         walls = record {
-          left = by_lt_z p.x (pos 0) (λ d. absurd (n 0 (omega arith) d)) (λ d. d);
-          right = by_lt_z (pos (h.wide * p.w)) p.x (λ d. absurd (n 1 (omega arith) d)) (λ d. d);
-          low = by_lt_z p.y (pos 0) (λ d. absurd (n 2 (omega arith) d)) (λ d. d);
-          high = by_lt_z (pos (h.high * p.w)) p.y (λ d. absurd (n 3 (omega arith) d)) (λ d. d);
+          left = by_lt_z p.x (pos 0) (λ d. absurd (n 0 (omega arith) (omega (arith, ints)))) (λ d. d);
+          right = by_lt_z (pos (h.wide * p.w)) p.x (λ d. absurd (n 1 (omega arith) (omega (arith, ints)))) (λ d. d);
+          low = by_lt_z p.y (pos 0) (λ d. absurd (n 2 (omega arith) (omega (arith, ints)))) (λ d. d);
+          high = by_lt_z (pos (h.high * p.w)) p.y (λ d. absurd (n 3 (omega arith) (omega (arith, ints)))) (λ d. d);
         };
         apart = λ k l d. n (suc (suc (suc (suc k)))) (omega arith) d;
       }
 
-  -- ---- the shadows of the first n bars
-  pub record Cast (n : ℕ) (ss : List (Option Shadow)) : Type 0 where
+  -- ---- the shadows of all bars, each at its number
+  pub record Cast (ss : List (Option Shadow)) : Type 0 where
     pub count : length ss ≡ 44
-    pub bars : (k : ℕ) → k < n → Bars h gs a b k (get_or ss k None)
-    pub none : (k : ℕ) → n ≤ k → get_or ss k None ≡ None
+    pub bars : (k : ℕ) → k < 4 + length gs → Bars h gs a b k (get_or ss k None)
+    pub none : (k : ℕ) → 4 + length gs ≤ k → get_or ss k None ≡ None
 
-  pub cast_none : Cast 0 (replicate 44 None)
-  cast_none =
+  -- where each call of a closure gave the shadow of one bar
+  pub cast_from : {F : Type 0} (g : Mut F (ℕ × Unit {0}) (Option Shadow)) (f : F) (count few : ℕ) (ss : List (Option Shadow)) → IsFromFnResult g f ss count → count ≡ 44 → few ≡ length gs → few ≤ 40 →
+      ((j : ℕ) (o : Option Shadow) (q : F) → Called g f (j, tt) o q → ((j < 4 + few → Bars h gs a b j o) × (4 + few ≤ j → o ≡ None)) × (q ≡ f)) → Cast ss
+  cast_from g f count few ss r is same l gives =
+      let at = λ (k : ℕ) (m : k < count). from_fn_at g (λ (j : ℕ) (o : Option Shadow). (j < 4 + few → Bars h gs a b j o) × (4 + few ≤ j → o ≡ None)) f gives count k ss r.each m None in
       record {
-        count = length-replicate {A = Option Shadow} 44 None;
-        bars = λ k l. absurd (omega arith);
-        none = λ k _.
-            ⊎_elim
-            (λ l. get_or-replicate 44 k None None l)
-            (λ l. get_or_past (replicate 44 None) k None (omega (arith, length-replicate {A = Option Shadow} 44 None)))
-            (cases_lt k 44);
-      }
-
-  pub cast_more : (n : ℕ) (ss : List (Option Shadow)) (r : Option Shadow) → Cast n ss → n < 44 → Bars h gs a b n r → Cast (n + 1) (set ss n r)
-  cast_more n ss r c l d =
-      let m : n < length ss = omega (arith, c.count) in
-      record {
-        count = length-set ss n r ∙ c.count;
-        bars = λ k i.
-            ⊎_elim
-            (λ e. subst (λ (j : ℕ). Bars h gs a b j (get_or (set ss n r) j None)) (sym e) (subst (Bars h gs a b n) (sym (get_or-set_same ss n r None m)) d))
-            (λ e. subst (Bars h gs a b k) (sym (get_or-set_other ss n k r None e)) (c.bars k (omega arith)))
-            (cases_eq k n);
-        none = λ k i. get_or-set_other ss n k r None (omega arith) ∙ c.none k (omega arith);
+        count = r.long ∙ is;
+        bars = λ k m. (at k (omega arith)).0 (omega arith);
+        none = λ k m. ⊎_elim (λ i. (at k i).1 (omega arith)) (λ i. get_or_past ss k None (omega (arith, r.long))) (cases_lt k count);
       }
 
   shaded_barred : (j : ℕ) (o : Option Shadow) → Bars h gs a b j o → (t u : ℕ) → 0 < t + u → Shaded o t u → Barred h gs j (between (at a) (at b) t u)
@@ -178,7 +142,7 @@ module _ (h : Hall) (gs : List Shape) (a b : Corner) where
   opens_of j None x d e = let z : ◌≡◌ {A = ℕ} 0 1 = cc in absurd (omega arith)
   opens_of j (Some y) x d e = let z : y ≡ x = cc in subst Opens z d.opens
 
-  pub cast_lights : (ss : List (Option Shadow)) → length gs ≤ 40 → Cast (4 + length gs) ss → Lights h gs a b ss
+  pub cast_lights : (ss : List (Option Shadow)) → length gs ≤ 40 → Cast ss → Lights h gs a b ss
   unfolding Lit AllOpen
   cast_lights ss few c =
       record {

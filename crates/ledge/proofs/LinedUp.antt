@@ -8,9 +8,9 @@ use Rattle.algebra.proofs.Order.{signs, by-≡, untimes-≡, pos>0}
 use Rattle.exact.specs.declared.points.Side.{Side}
 use Rattle.exact.specs.Points.{corner_of}
 use Rattle.exact.specs.Sides.{turning}
-use Rattle.exact.specs.Meets.{Among, On, Unmet}
+use Rattle.exact.specs.Meets.{Among, Unmet}
 use Rattle.exact.proofs.Crossings.{among_side, among_line, gap, gaps, size_up}
-use Rattle.ledge.specs.Contacts.{RunsRight, IsInLine, Over, LiesInLine}
+use Rattle.ledge.specs.Contacts.{Segment, segment, OnSegment, RunsRight, IsInLine, Over, LiesInLine}
 
 -- ---- a place between two corners, and a line on which both have one value
 -- on the line, if that value is 0
@@ -81,30 +81,30 @@ at_corner a b c q r e f x =
     }
 
 -- ---- sides of the code
-turned : (a b : Side) → RunsRight a b → RunsRight b a
+turned : (a b : Segment) → RunsRight a b → RunsRight b a
 turned a b r = record { first = r.second; second = r.first; one = ⊎_elim inr inl r.one }
 
-swapped : (a b : Side) → IsInLine a b → IsInLine b a
+swapped : (a b : Segment) → IsInLine a b → IsInLine b a
 swapped a b l = record { first_from = l.second_from; first_to = l.second_to; second_from = l.first_from; second_to = l.first_to }
 
 -- in one line, what is on the one and over the other is on the other
-carried : (a b : Side) → RunsRight a b → IsInLine a b → (q : Place) → 0 < q.w → On a q → Over b q → On b q
+carried : (a b : Segment) → RunsRight a b → IsInLine a b → (q : Place) → 0 < q.w → OnSegment a q → Over b q → OnSegment b q
 carried a b r l q w h o = ⊎_elim (λ i. ⊎_elim runs (single i) r.second) runs r.one
   where
-    runs : b.from.x <ℤ b.to.x → On b q
+    runs : b.from.x <ℤ b.to.x → OnSegment b q
     runs i = within (corner_of b.from) (corner_of b.to) q i w (line_through (corner_of a.from) (corner_of a.to) (corner_of b.from) (corner_of b.to) q l.first_from l.first_to h) o.from o.to
 
-    single : a.from.x <ℤ a.to.x → corner_of b.from ≡ corner_of b.to → On b q
+    single : a.from.x <ℤ a.to.x → corner_of b.from ≡ corner_of b.to → OnSegment b q
     single i e =
         subst (λ (d : Corner). Among (corner_of b.from) d q) e
         (at_corner (corner_of a.from) (corner_of a.to) (corner_of b.from) q i l.second_from (among_line (corner_of a.from) (corner_of a.to) q h)
         (omega (arith, ints, o.from, o.to, ap (λ (d : Corner). d.x *ℤ pos q.w) e)))
 
-pub lines_up : (a b : Side) → RunsRight a b → IsInLine a b → LiesInLine a b
+pub lines_up : (a b : Segment) → RunsRight a b → IsInLine a b → LiesInLine a b
 lines_up a b r l = record { to_second = carried a b r l; to_first = carried b a (turned a b r) (swapped a b l) }
 
 -- parallel sides with a place in common are in one line
-parallel : (a b : Side) → turning a b ≡ pos 0 → (q : Place) → 0 < q.w → On a q → On b q → IsInLine a b
+parallel : (a b : Side) → turning a b ≡ pos 0 → (q : Place) → 0 < q.w → OnSegment (segment a) q → OnSegment (segment b) q → IsInLine (segment a) (segment b)
 parallel a b z q w h k =
     let s = corner_of a.from in
     let t = corner_of a.to in
@@ -116,5 +116,5 @@ parallel a b z q w h k =
     let j = ends_on u v s t q f w k (among_line s t q h) in
     record { first_from = i; first_to = sym e ∙ i; second_from = j; second_to = sym f ∙ j }
 
-pub out_of_line : (a b : Side) → Unmet a b → (IsInLine a b → ⊥) → (q : Place) → 0 < q.w → On a q → On b q → ⊥
+pub out_of_line : (a b : Side) → Unmet a b → (IsInLine (segment a) (segment b) → ⊥) → (q : Place) → 0 < q.w → OnSegment (segment a) q → OnSegment (segment b) q → ⊥
 out_of_line a b m n q w h k = ⊎_elim (λ z. n (parallel a b z q w h k)) (λ f. f q w h k) m

@@ -1,11 +1,9 @@
 -- Ledges in words: what is written of the parts of a surface are its ledges, and those of all surfaces make a map. Assumes nothing.
-use Rattle.std.proofs.Common.{◌≡◌, ℕ, ◌++◌, take, map, ◌+◌, ◌*◌, ◌<◌, ◌≤◌, List, length, get_or, Some, Option, sym, refl, ap, ◌∙◌, subst, ⊎_elim, arith, below_more, slice_index}
+use Rattle.std.proofs.Common.{◌≡◌, ℕ, ◌++◌, take, ◌+◌, ◌*◌, ◌<◌, ◌≤◌, List, length, get_or, Some, Option, sym, refl, ap, ◌∙◌, subst, ⊎_elim, arith, below_more, slice_index}
 use Rattle.std.proofs.lemmas.Bool.{cases_eq}
 use borrow.Rule.Slice.PartMut.{put_mid, post_of}
 use Rattle.std.proofs.Math.Nat.{mul-le-mul_right}
 use Rattle.std.proofs.lemmas.List.{get_or_append_left, get_or-take, get_or-append-add, length-take-le}
-use Rattle.hall.specs.declared.shapes.Shape.{Shape as Shaped}
-use Rattle.hall.specs.Shapes.{shape_of}
 use Rattle.algebra.specs.Hall as hall
 use Rattle.algebra.specs.Hall.{Corner, Shape, Hall, Free}
 use Rattle.obstacle.specs.Freedom.{Obstacles}
@@ -22,6 +20,7 @@ use Rattle.ledge.specs.Runs.{Lit}
 use Rattle.ledge.specs.Surfaces.{Surface, Stands}
 use Rattle.ledge.proofs.Landing.{same_number, number_below}
 use Rattle.ledge.proofs.Ledging.{ledge_laws}
+use Rattle.ledge.proofs.Numbering.{FewSides}
 
 -- ---- the words of a part
 place_moved : (old new : List ℕ) (i j : ℕ) → slice_index new i ≡ slice_index old j → slice_index new (i + 1) ≡ slice_index old (j + 1) → slice_index new (i + 2) ≡ slice_index old (j + 2) →
@@ -98,38 +97,38 @@ module _ (ws ys : List ℕ) (a k : ℕ) (room : a ≤ length ws) where
       ∙ (get_or-append-add (take a ws) (ys ++ post_of a k ws) i 0 ∙ get_or_append_left ys (post_of a k ws) 0 i l)
 
 -- ---- the map: each surface whose number is below n has its ledges in its part
-module _ (h : Hall) (os : List (Shaped 16)) (m : ℕ) where
+module _ (h : Hall) (gs : List Shape) (m : ℕ) where
   abbrev pub MappedTo : ℕ → List ℕ → Type 0
-  MappedTo n ws = (s : Surface) → Stands (map shape_of os) s → number s < n → Ledged h (map shape_of os) s ws (number s * m) m
+  MappedTo n ws = (s : Surface) → Stands gs s → number s < n → Ledged h gs s ws (number s * m) m
 
   pub mapped_none : (ws : List ℕ) → MappedTo 0 ws
   mapped_none ws s st l = absurd (omega arith)
 
-  pub mapped_pass : (n : ℕ) (ws : List ℕ) → MappedTo n ws → Unnumbered (map shape_of os) n → MappedTo (n + 1) ws
+  pub mapped_pass : (n : ℕ) (ws : List ℕ) → MappedTo n ws → Unnumbered gs n → MappedTo (n + 1) ws
   mapped_pass n ws f none s st l =
       ⊎_elim (λ e. absurd (none s (record { stands = st; is = e }))) (λ e. f s st (omega arith)) (cases_eq (number s) n)
 
-  pub mapped_more : (n k : ℕ) (ws ys : List ℕ) (t : Surface) → n * (6 * m) ≤ length ws → 6 * m ≤ length ys → MappedTo n ws → Numbered (map shape_of os) n t → Ledged h (map shape_of os) t ys 0 m →
-      MappedTo (n + 1) (put_mid (n * (6 * m)) k ws ys)
-  mapped_more n k ws ys t room size f num here s st l =
-      let gs = map shape_of os in
-      let new = put_mid (n * (6 * m)) k ws ys in
-      ⊎_elim
-      (λ e.
-      let same = same_number os s t st num.stands (e ∙ sym num.is) in
-      let at = ap (λ (j : ℕ). j * m) e in
-      ledged_moved h gs s ys new (number s * m) 0 m
-      (λ c w. part_moved ys new (number s * m + c) (0 + c) (λ x y g i z. put_here ws ys (n * (6 * m)) k room y x (omega (arith, at)) (omega (arith, at))))
-      (subst (λ (r : Surface). Ledged h gs r ys 0 m) (sym same) here))
-      (λ e.
-      let d : number s + 1 ≤ n = omega arith in
-      let b = mul-le-mul_right m d in
-      ledged_moved h gs s ws new (number s * m) (number s * m) m
-      (λ c w. part_moved ws new (number s * m + c) (number s * m + c)
-      (λ x y g i z. put_before ws ys (n * (6 * m)) k room x (omega (arith, b)) ∙ ap (slice_index ws) (omega arith)))
-      (f s st (omega arith)))
-      (cases_eq (number s) n)
+  module _ (few : FewSides gs) where
+    pub mapped_more : (n k : ℕ) (ws ys : List ℕ) (t : Surface) → n * (6 * m) ≤ length ws → 6 * m ≤ length ys → MappedTo n ws → Numbered gs n t → Ledged h gs t ys 0 m →
+        MappedTo (n + 1) (put_mid (n * (6 * m)) k ws ys)
+    mapped_more n k ws ys t room size f num here s st l =
+        let new = put_mid (n * (6 * m)) k ws ys in
+        ⊎_elim
+        (λ e.
+        let same = same_number gs few s t st num.stands (e ∙ sym num.is) in
+        let at = ap (λ (j : ℕ). j * m) e in
+        ledged_moved h gs s ys new (number s * m) 0 m
+        (λ c w. part_moved ys new (number s * m + c) (0 + c) (λ x y g i z. put_here ws ys (n * (6 * m)) k room y x (omega (arith, at)) (omega (arith, at))))
+        (subst (λ (r : Surface). Ledged h gs r ys 0 m) (sym same) here))
+        (λ e.
+        let d : number s + 1 ≤ n = omega arith in
+        let b = mul-le-mul_right m d in
+        ledged_moved h gs s ws new (number s * m) (number s * m) m
+        (λ c w. part_moved ws new (number s * m + c) (number s * m + c)
+        (λ x y g i z. put_before ws ys (n * (6 * m)) k room x (omega (arith, b)) ∙ ap (slice_index ws) (omega arith)))
+        (f s st (omega arith)))
+        (cases_eq (number s) n)
 
-  pub mapped_all : (ws : List ℕ) → MappedTo (16 * length os + 1) ws → Mapped h (map shape_of os) ws m
-  unfolding Mapped
-  mapped_all ws f s st = f s st (number_below os s st)
+    pub mapped_all : (n : ℕ) (ws : List ℕ) → 16 * length gs < n → MappedTo n ws → Mapped h gs ws m
+    unfolding Mapped
+    mapped_all n ws l f s st = f s st (omega (arith, number_below gs few s st))

@@ -1,6 +1,7 @@
 -- What two ledges have in common, by how their surfaces lie to each other. Assumes nothing.
-use Rattle.std.proofs.Common.{◌≡◌, ℕ, ◌+◌, ◌-◌, ◌*◌, ◌^◌, ◌<◌, true, false, ◌⊎◌, [], ◌∷◌, ℤ, pos, ◌+ℤ◌, ◌-ℤ◌, ◌*ℤ◌, ◌≤ℤ◌, ◌<ℤ◌, Some, None, Decides, Ordering, Less, Equal, Greater, sym, refl, ap, ◌∙◌, subst, ⊎_elim, true≢false, arith}
+use Rattle.std.proofs.Common.{◌≡◌, ℕ, ◌+◌, ◌-◌, ◌*◌, ◌^◌, ◌<◌, true, false, ◌⊎◌, [], ◌∷◌, ℤ, pos, ◌+ℤ◌, ◌-ℤ◌, ◌*ℤ◌, ◌≤ℤ◌, ◌<ℤ◌, Some, None, Option, Bool, Decides, MatchOption, Ordering, Less, Equal, Greater, sym, refl, ap, ◌∙◌, subst, ⊎_elim, true≢false, arith}
 use mathlib.Core.Bool.{false≢true}
+use Rattle.std.specs.Bool.{then_some}
 use borrow.Author.Differences.{ints}
 use Rattle.std.specs.Ordering.{MatchOrdering, is_lt, is_le}
 use Rattle.algebra.specs.Hall as hall
@@ -9,17 +10,15 @@ use Rattle.algebra.specs.Forms.{Same}
 use Rattle.algebra.proofs.Polynomial.{forms, by_ring}
 use Rattle.algebra.proofs.Order.{signs, by-≤, untimes-≤, pos>0}
 use Rattle.exact.specs.declared.points.Place.{Place}
-use Rattle.exact.specs.declared.points.Side.{Side}
 use Rattle.exact.specs.Points.{corner_of, place_of}
 use Rattle.exact.specs.Sides.{PlaceNear}
-use Rattle.exact.specs.Meets.{On}
 use Rattle.exact.specs.Orders as exact
 use Rattle.exact.specs.Orders.{LeftOf}
 use Rattle.ledge.specs.declared.contacts.Meeting.{Meeting}
 use Rattle.ledge.specs.declared.contacts.Meeting.TheVariants.{Apart, Crossing, InLine}
 use Rattle.ledge.specs.declared.parts.Ledge.{Ledge}
 use Rattle.ledge.specs.Parts.{LedgeNear, Along}
-use Rattle.ledge.specs.Contacts.{Over, MetAs, MeetingNear, Lies, NothingCommon, Shared}
+use Rattle.ledge.specs.Contacts.{Segment, OnSegment, Over, MetAs, MeetingNear, Lies, NothingCommon, Shared}
 
 -- ---- the order of abscissae
 -- x / u ≤ y / v ≤ z / w
@@ -56,7 +55,7 @@ along_same l p q w s h =
 
 -- ---- a ledge on a side is over it
 -- a side that runs to the right, or is a single place, has its places from left to right
-over : (a : Side) (q : hall.Place) → (a.from.x <ℤ a.to.x) ⊎ (corner_of a.from ≡ corner_of a.to) → On a q → Over a q
+over : (a : Segment) (q : hall.Place) → (a.from.x <ℤ a.to.x) ⊎ (corner_of a.from ≡ corner_of a.to) → OnSegment a q → Over a q
 unfolding between
 over a q r h =
     let i : a.from.x ≤ℤ a.to.x = ⊎_elim (λ l. omega (arith, ints)) (λ e. omega (arith, ints, ap (λ (c : hall.Corner). c.x) e)) r in
@@ -76,7 +75,7 @@ over a q r h =
     }
 
 -- and so is what is along the ledge
-along_over : (a : Side) (l : Ledge) (q : hall.Place) → (a.from.x <ℤ a.to.x) ⊎ (corner_of a.from ≡ corner_of a.to) → LedgeNear l → Lies a l → Along l q → Over a q
+along_over : (a : Segment) (l : Ledge) (q : hall.Place) → (a.from.x <ℤ a.to.x) ⊎ (corner_of a.from ≡ corner_of a.to) → LedgeNear l → Lies a l → Along l q → Over a q
 along_over a l q r n on h =
     let i = over a (place_of l.from) r on.from in
     let j = over a (place_of l.to) r on.to in
@@ -129,23 +128,36 @@ tells_first l m nl nm o =
       missed = λ f a b r k i j q w _ _ g h. let s = starts m l q w o h g in f s.1 s.0;
     }
 
--- ---- the same by the ways of the code
-module _ (k : Meeting) (l m : Ledge) (p : Place) where
-  told : (j : Meeting) (o : Place) → k ≡ j → p ≡ o → Tells j l m o → Tells k l m p
-  told j o d e t = subst (λ (i : Meeting). Tells i l m p) (sym d) (subst (Tells j l m) (sym e) t)
+-- ---- the same by the ways of the code: the place that is tried, if one is
+module _ (l m : Ledge) where
+  abbrev pub Tried : Meeting → Option Place → Type 0
+  Tried k None = Shared k l m None
+  Tried k (Some p) = Tells k l m p
 
-  pub by_crossing : (o : Place) → MeetingNear k → k ≡ Crossing o → p ≡ o → Tells k l m p
-  by_crossing o n d e = told (Crossing o) o d e (tells_crossing l m o (subst MeetingNear d n))
+  told : {j k : Meeting} {o q : Option Place} → k ≡ j → q ≡ o → Tried j o → Tried k q
+  told d e t = rw (d, e) t
 
-  module _ (r : Ordering) (ranked : MatchOrdering r (LeftOf l.from m.from) (exact.InLine l.from m.from) (LeftOf m.from l.from)) (nl : LedgeNear l) (nm : LedgeNear m) (d : k ≡ InLine) where
-    pub by_second : true ≡ is_lt r → p ≡ m.from → Tells k l m p
-    by_second t e = told InLine m.from d e (tells_second l m nl nm (less r _ _ ranked (sym t)))
+  pub tried_apart : (k : Meeting) (o : Option Place) → k ≡ Apart → o ≡ None → Tried k o
+  tried_apart k o d e = told d e (none_apart l m)
 
-    pub by_first : false ≡ is_lt r → p ≡ l.from → Tells k l m p
-    by_first t e = told InLine l.from d e (tells_first l m nl nm (not_less r _ _ ranked (sym t)))
+  pub tried_crossing : (k : Meeting) (o : Option Place) (p : Place) → MeetingNear k → k ≡ Crossing p → o ≡ Some p → Tried k o
+  tried_crossing k o p n d e = told d e (tells_crossing l m p (subst MeetingNear d n))
+
+  module _ (k : Meeting) (o : Option Place) (r : Ordering) (ranked : MatchOrdering r (LeftOf l.from m.from) (exact.InLine l.from m.from) (LeftOf m.from l.from)) (nl : LedgeNear l) (nm : LedgeNear m) (d : k ≡ InLine) where
+    pub tried_second : true ≡ is_lt r → o ≡ Some m.from → Tried k o
+    tried_second t e = told d e (tells_second l m nl nm (less r _ _ ranked (sym t)))
+
+    pub tried_first : false ≡ is_lt r → o ≡ Some l.from → Tried k o
+    tried_first t e = told d e (tells_first l m nl nm (not_less r _ _ ranked (sym t)))
+
+  pub by_filter : {R : Place → Bool → Type 0} (k : Meeting) (o : Option Place) → Tried k o → ((p : Place) (b : Bool) → R p b → Decides b (Along l (place_of p) × Along m (place_of p))) →
+      (r : Option Place) → MatchOption o (r ≡ None) (λ p. (b : Bool) × R p b × (r ≡ then_some b p)) → Shared k l m r
+  by_filter k None t holds r e = rw e t
+  by_filter k (Some p) t holds r (true, h, e) = let d = (holds p true h).0 refl in rw e (t.found d.0 d.1)
+  by_filter k (Some p) t holds r (false, h, e) = rw e (t.missed (λ f g. false≢true ((holds p false h).1 (f, g))))
 
 -- ---- what `meeting_of` ensures is near
-pub met_near : (a b : Side) (k : Meeting) → MetAs a b k → MeetingNear k
+pub met_near : (a b : Segment) (k : Meeting) → MetAs a b k → MeetingNear k
 met_near a b Apart h = tt
 met_near a b (Crossing p) h = h.near
 met_near a b InLine h = tt

@@ -1,17 +1,22 @@
 -- The ends of upper chains: the corner that lies farthest out on one hand. Assumes nothing.
-use Rattle.std.proofs.Common.{◌≡◌, ℕ, ◌<◌, List, length, pos, ◌*ℤ◌, ◌≤ℤ◌, inl, inr, sym, ◌∙◌, subst, arith}
+use Rattle.std.proofs.Common.{◌≡◌, ℕ, ◌<◌, Bool, true, false, List, length, pos, ◌*ℤ◌, ◌≤ℤ◌, Some, None, Option, MatchOption, Decides, inl, inr, refl, sym, ◌∙◌, subst, arith}
 use borrow.Author.Differences.{ints}
 use Rattle.std.proofs.lemmas.Int.{by_lt_z}
+use Rattle.std.proofs.lemmas.Bool.{false≢true}
+use Rattle.std.specs.Prelude.{MatchBool}
+use Rattle.std.specs.List.{AllWithin, HoldsAt}
 use Rattle.algebra.specs.Hall.{Corner, Place, Shape, Hall, Sound, Free, corner, next, at}
 use Rattle.algebra.proofs.Order.{pos>0, pos≥0, times-≤, untimes-≤}
 use Rattle.algebra.proofs.Forms.{same_place}
 use Rattle.algebra.proofs.Places.{same_standing}
+use Rattle.hall.specs.Sides.{CornerPair, sides_of}
+use Rattle.hall.proofs.Walks.{side_pair, length_sides}
 use Rattle.obstacle.specs.Section.{Spans, LeftOf, RightOf}
 use Rattle.obstacle.proofs.Cycle.{next_below, find_one}
 use Rattle.obstacle.proofs.Mixed.{side_start, side_end}
 use Rattle.ledge.specs.declared.descents.Hand.{Hand}
 use Rattle.ledge.specs.declared.descents.Hand.TheVariants as hand
-use Rattle.ledge.specs.Descents.{Farther, Outermost, TipSide, end_at}
+use Rattle.ledge.specs.Descents.{Farther, Outermost, TipSide, NoTipSide, TipPair, pair_end, end_at}
 use Rattle.ledge.specs.Graph.{Tip}
 use Rattle.ledge.specs.Heights.{Abreast, foot}
 use Rattle.ledge.specs.Sides.{Upper, end, roof}
@@ -31,6 +36,21 @@ module _ (g : Shape) (p : Place) where
   none_farther hand.Left o j l f = omega (arith, ints, o j l)
   none_farther hand.Right o j l f = omega (arith, ints, o j l)
 
+  -- what a test of one side after another comes to
+  pub outermost_decided : (s : Hand) (r : Bool) →
+      MatchBool r (AllWithin (λ (a : CornerPair). Farther a.0 s p → ⊥) (sides_of g) 0 (length (sides_of g))) ((k : ℕ) × (k < length (sides_of g)) × HoldsAt (λ (a : CornerPair). Farther a.0 s p) (sides_of g) k) →
+      Decides r (Outermost g s p)
+  outermost_decided s true h = (
+    λ _. outermost_from s (λ j l f.
+        let d : CornerPair = (corner g j, corner g j) in
+        h j d (omega arith) (omega (arith, length_sides g (length g) 0)) (subst (λ (a : CornerPair). Farther a.0 s p) (sym (side_pair g j d l)) f)),
+    λ _. refl,
+  )
+  outermost_decided s false h =
+      let l : h.0 < length g = omega (arith, h.1, length_sides g (length g) 0) in
+      let d : CornerPair = (corner g h.0, corner g h.0) in
+      (λ e. absurd (false≢true e), λ o. absurd (none_farther s o h.0 l (subst (λ (a : CornerPair). Farther a.0 s p) (side_pair g h.0 d l) (h.2 d))))
+
   -- a shape spans a place that is outermost on neither hand, and no other
   pub spans_from : (Outermost g hand.Left p → ⊥) → (Outermost g hand.Right p → ⊥) → Spans g p
   spans_from left right =
@@ -41,6 +61,30 @@ module _ (g : Shape) (p : Place) where
   pub spanned_not : Spans g p → (s : Hand) → Outermost g s p → ⊥
   spanned_not sp hand.Left o = omega (arith, ints, sp.left, o sp.i sp.i_within)
   spanned_not sp hand.Right o = omega (arith, ints, sp.right, o sp.j sp.j_within)
+
+-- the end of side i on one hand
+pub end_here : (g : Shape) (i : ℕ) (r : CornerPair) → r.0 ≡ corner g i → r.1 ≡ end g i → (s : Hand) → pair_end r s ≡ end_at g i s
+end_here g i r from to hand.Left = to
+end_here g i r from to hand.Right = from
+
+-- what a search among the sides comes to
+module _ (g : Shape) (s : Hand) where
+  run_tip : (i : ℕ) → i < length g → TipPair g s (corner g i, end g i) → TipSide g s i
+  run_tip i l t = record { upper = record { within = l; runs = t.runs }; outermost = subst (λ (c : Corner). Outermost g s (at c)) (end_here g i (corner g i, end g i) refl refl s) t.outermost }
+
+  tip_run : (i : ℕ) → TipSide g s i → TipPair g s (corner g i, end g i)
+  tip_run i t = record { runs = t.upper.runs; outermost = subst (λ (c : Corner). Outermost g s (at c)) (sym (end_here g i (corner g i, end g i) refl refl s)) t.outermost }
+
+  pub tip_side_found : (r : Option ℕ) →
+      MatchOption r (AllWithin (λ (a : CornerPair). TipPair g s a → ⊥) (sides_of g) 0 (length (sides_of g)))
+      (λ i. (i < length (sides_of g)) × HoldsAt (TipPair g s) (sides_of g) i × AllWithin (λ (a : CornerPair). TipPair g s a → ⊥) (sides_of g) 0 i) → MatchOption r (NoTipSide g s) (TipSide g s)
+  tip_side_found None h = λ i t.
+      let d : CornerPair = (corner g i, corner g i) in
+      h i d (omega arith) (omega (arith, length_sides g (length g) 0, t.upper.within)) (subst (TipPair g s) (sym (side_pair g i d t.upper.within)) (tip_run i t))
+  tip_side_found (Some i) h =
+      let d : CornerPair = (corner g i, corner g i) in
+      let l : i < length g = omega (arith, h.0, length_sides g (length g) 0) in
+      run_tip i l (subst (TipPair g s) (side_pair g i d l) (h.1 d))
 
 -- ---- the tip of an obstacle on one hand
 module _ (h : Hall) (gs : List Shape) (k : ℕ) where

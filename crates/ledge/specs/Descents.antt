@@ -3,6 +3,7 @@ use Rattle.std.specs.Prelude.{◌≡◌, ℕ, ◌+◌, ◌*◌, ◌<◌, List, l
 use Rattle.algebra.specs.Hall.{Corner, Place, Shape, Hall, at, corner}
 use Rattle.exact.specs.Points.{corner_of}
 use Rattle.exact.specs.Sides.{CornerNear}
+use Rattle.hall.specs.Sides.{CornerPair}
 use Rattle.ledge.specs.declared.descents.Descent.{Descent}
 use Rattle.ledge.specs.declared.descents.Hand.{Hand}
 use Rattle.ledge.specs.declared.descents.Hand.TheVariants as hand
@@ -32,6 +33,15 @@ pub record TipSide (g : Shape) (side : Hand) (i : ℕ) : Type 0 where
   pub upper : Upper g i
   pub outermost : Outermost g side (at (end_at g i side))
 
+-- the same of a side by its ends: it runs to the left, and no corner lies farther out than where it ends on that hand
+abbrev pub pair_end : CornerPair → Hand → Corner
+pair_end r hand.Left = r.1
+pair_end r hand.Right = r.0
+
+pub record TipPair (g : Shape) (side : Hand) (r : CornerPair) : Type 0 where
+  pub runs : r.1.x <ℤ r.0.x
+  pub outermost : Outermost g side (at (pair_end r side))
+
 abbrev pub NoTipSide : Shape → Hand → Type 0
 NoTipSide g side = (i : ℕ) → TipSide g side i → ⊥
 
@@ -51,6 +61,11 @@ NoTip h gs k side = (i : ℕ) (e : Place) → Tip h gs k i e → Outermost (obst
 
 abbrev pub DescentIs : Hall → List Shape → ℕ → Hand → Option Descent → Type 0
 DescentIs h gs k side r = MatchOption r (NoTip h gs k side) (FallsFrom h gs k side)
+
+-- the fall that stands at i in a list
+pub record DescentAt (h : Hall) (gs : List Shape) (i : ℕ) (r : Option Descent) : Type 0 where
+  pub left : (k : ℕ) → i ≡ 2 * k → DescentIs h gs k hand.Left r
+  pub right : (k : ℕ) → i ≡ 2 * k + 1 → DescentIs h gs k hand.Right r
 
 -- the falls of every obstacle, by their places in a list
 pub record AllDescents (h : Hall) (gs : List Shape) (ds : List (Option Descent)) : Type 0 where

@@ -1,8 +1,10 @@
 -- The floor of a place, by its surface. Assumes nothing: these are definitions.
 use Rattle.std.specs.Prelude.{List, pos, ◌*ℤ◌, ◌≤ℤ◌}
 use Rattle.algebra.specs.Hall.{Place, Shape, Hall}
-use Rattle.algebra.specs.Forms.{value}
+use Rattle.algebra.specs.Forms.{Form, value, line}
 use Rattle.exact.specs.declared.points.Side.{Side}
+use Rattle.exact.specs.Points.{corner_of}
+use Rattle.obstacle.specs.Section.{Spans}
 use Rattle.ledge.specs.Heights.{foot}
 use Rattle.ledge.specs.Surfaces.{Surface, Holds, Floor, above}
 
@@ -20,6 +22,16 @@ floor_at {h} {gs} {p} {s} f = record { surface = s; holds = f.holds; highest = f
 pub record IsOver (roof : Side) (p : Place) : Type 0 where
   pub from : (roof.from.x *ℤ pos p.w) ≤ℤ p.x
   pub to : p.x ≤ℤ (roof.to.x *ℤ pos p.w)
+
+-- the form of a line of the code: above 0 above it, where it runs to the right
+abbrev pub form_of : Side → Form
+form_of s = line (corner_of s.from) (corner_of s.to)
+
+-- the shape g spans the abscissa of p, which is among those of its side, and p is not below that
+pub record IsHeld (g : Shape) (roof : Side) (p : Place) : Type 0 where
+  pub over : IsOver roof p
+  pub spans : Spans g p
+  pub not_above : pos 0 ≤ℤ value (form_of roof) p
 
 -- s is not higher than t over the abscissa of p
 abbrev pub Under : List Shape → Place → Surface → Surface → Type 0

@@ -1,27 +1,43 @@
 -- What bars the places of a surface: the walls of the hall, and the obstacles. Assumes nothing: these are definitions.
-use Rattle.std.specs.Prelude.{◌≡◌, ℕ, zero, suc, ◌+◌, ◌*◌, ◌<◌, ◌≤◌, List, length, pos, ◌-ℤ◌, ◌<ℤ◌, Some, None, Option, MatchOption, ◌≢◌, slice_index_or}
+use Rattle.std.specs.Prelude.{◌≡◌, ℕ, zero, suc, ◌+◌, ◌-◌, ◌*◌, ◌<◌, ◌≤◌, List, length, ℤ, pos, ◌-ℤ◌, neg_ℤ, ◌<ℤ◌, Some, None, Option, MatchOption, ◌≢◌, slice_index_or}
 use Rattle.algebra.specs.Hall.{Corner, Place, Shape, Hall, Inside, at, between}
-use Rattle.algebra.specs.Near.{Near}
 use Rattle.obstacle.specs.Freedom.{Clear}
-use Rattle.exact.specs.declared.meets.Ends.{Ends}
+use Rattle.hall.specs.Shapes.{shape_of}
+use Rattle.ledge.specs.declared.lights.Wall.{Wall}
+use Rattle.ledge.specs.declared.lights.Wall.TheVariants.{Left, Right, Lower, Upper}
+use Rattle.ledge.specs.declared.lights.Bar.{Bar}
+use Rattle.ledge.specs.declared.lights.Bar.TheVariants as bar
 use Rattle.ledge.specs.declared.shadows.Shadow.{Shadow}
 use Rattle.ledge.specs.Coverage.{AllOpen}
 use Rattle.ledge.specs.Runs.{Lit}
-use Rattle.ledge.specs.Shadows.{Dark, Opens, reading}
+use Rattle.ledge.specs.Shadows.{Dark, Opens}
 use Rattle.ledge.specs.Surfaces.{obstacle}
 
--- the place is beyond a wall, the left, the right, the lower or the upper one; or inside an obstacle
-abbrev pub Barred : Hall → List Shape → ℕ → Place → Type 0
-Barred h gs zero p = p.x <ℤ pos 0
-Barred h gs (suc zero) p = pos (h.wide * p.w) <ℤ p.x
-Barred h gs (suc (suc zero)) p = p.y <ℤ pos 0
-Barred h gs (suc (suc (suc zero))) p = pos (h.high * p.w) <ℤ p.y
-Barred h gs (suc (suc (suc (suc k)))) p = Inside (obstacle gs k) p
+-- how far a place is beyond a wall, times the place's w
+abbrev pub past : Hall → Wall → Place → ℤ
+past h Left p = neg_ℤ p.x
+past h Right p = p.x -ℤ pos (h.wide * p.w)
+past h Lower p = neg_ℤ p.y
+past h Upper p = p.y -ℤ pos (h.high * p.w)
 
--- how far the ends of the surface from a to b are beyond a wall
-pub record WallEnds (h : Hall) (a b : Corner) (wall : ℕ) (e : Ends) : Type 0 where
-  pub near : Near 33521672 (e.from -ℤ e.to)
-  pub beyond : (gs : List Shape) (t u : ℕ) → wall < 4 → (pos 0 <ℤ reading e t u → Barred h gs wall (between (at a) (at b) t u)) × (Barred h gs wall (between (at a) (at b) t u) → pos 0 <ℤ reading e t u)
+-- the numbers of the bars: the four walls come first, then the obstacles
+abbrev pub wall_number : Wall → ℕ
+wall_number Left = 0
+wall_number Right = 1
+wall_number Lower = 2
+wall_number Upper = 3
+
+abbrev pub IsBar : List Shape → ℕ → Bar → Type 0
+IsBar gs j (bar.Wall w) = j ≡ wall_number w
+IsBar gs j (bar.Obstacle g) = (4 ≤ j) × (j < 4 + length gs) × (obstacle gs (j - 4) ≡ shape_of g.now)
+
+-- the place is beyond the wall with that number, or inside the obstacle
+abbrev pub Barred : Hall → List Shape → ℕ → Place → Type 0
+Barred h gs zero p = pos 0 <ℤ past h Left p
+Barred h gs (suc zero) p = pos 0 <ℤ past h Right p
+Barred h gs (suc (suc zero)) p = pos 0 <ℤ past h Lower p
+Barred h gs (suc (suc (suc zero))) p = pos 0 <ℤ past h Upper p
+Barred h gs (suc (suc (suc (suc k)))) p = Inside (obstacle gs k) p
 
 -- the shadow of bar number j: exactly the spots that it bars
 pub record BarsAll (h : Hall) (gs : List Shape) (a b : Corner) (j : ℕ) (s : Shadow) : Type 0 where

@@ -3,7 +3,7 @@ use Rattle.std.specs.Prelude.{◌≡◌, ℕ, ◌+◌, ◌<◌, ◌⊎◌, List,
 use Rattle.ledge.specs.declared.spots.Spot.{Spot}
 use Rattle.ledge.specs.declared.shadows.Shadow.{Shadow}
 use Rattle.ledge.specs.declared.runs.Run.{Run}
-use Rattle.ledge.specs.Shadows.{NotAfter, Dark}
+use Rattle.ledge.specs.Shadows.{Before, NotAfter, Dark}
 
 -- in a shadow, if there is one
 abbrev pub Shaded : Option Shadow → ℕ → ℕ → Type 0
@@ -21,6 +21,10 @@ pub record Begins (ss : List (Option Shadow)) (s : Spot) : Type 0 where
   pub shadow : Shadow
   pub is : get_or ss j None ≡ Some shadow
   pub here : shadow.from ≡ Some s
+
+-- b if it is not before s and before the stop a, or else a
+abbrev pub Sooner : Spot → Spot → Spot → Spot → Type 0
+Sooner s a b r = ((r ≡ b) × NotAfter s.t s.u b.t b.u × Before b.t b.u a.t a.u) ⊎ ((r ≡ a) × (NotAfter s.t s.u b.t b.u → NotAfter a.t a.u b.t b.u))
 
 -- r is the right end of the surface, or a shadow begins there; none begins before it and not before s
 pub record Stop (ss : List (Option Shadow)) (s r : Spot) : Type 0 where

@@ -1,7 +1,9 @@
 -- Spots of a surface and the shadows on it. The spot that has gone t parts of t + u is named by t and u. Assumes nothing: these are definitions.
 use Rattle.std.specs.Prelude.{◌≡◌, ℕ, ◌+◌, ◌*◌, ◌<◌, ◌≤◌, ℤ, pos, ◌+ℤ◌, ◌*ℤ◌, ◌≤ℤ◌, ◌<ℤ◌, Some, None, Option, MatchOption}
 use Rattle.algebra.specs.Hall.{Corner, Shape, Inside, at, between}
-use Rattle.exact.specs.declared.meets.Ends.{Ends}
+use Rattle.exact.specs.declared.points.Ends.{Ends}
+use Rattle.exact.specs.declared.points.Side.{Side}
+use Rattle.exact.specs.Meets.{EndsOf}
 use Rattle.ledge.specs.declared.spots.Spot.{Spot}
 use Rattle.ledge.specs.declared.shadows.Shadow.{Shadow}
 use Rattle.ledge.specs.declared.shadows.Course.{Course}
@@ -74,6 +76,12 @@ pub record Cut (s : Shadow) (e : Ends) (r : Shadow) : Type 0 where
 
 unfoldable pub Gone : Shadow → Ends → Type 0
 Gone s e = (t u : ℕ) → 0 < t + u → Dark s t u → pos 0 <ℤ reading e t u → ⊥
+
+-- the same, where the form is the line of a side, with its values at the ends of a surface
+pub record CutBy (s : Shadow) (surface line : Side) (r : Option Shadow) : Type 0 where
+  pub e : Ends
+  pub ends : EndsOf surface line e
+  pub part : MatchOption r (Gone s e) (Cut s e)
 
 -- the shadow of a shape on the surface from a to b: exactly the spots inside
 pub record Shades (g : Shape) (a b : Corner) (s : Shadow) : Type 0 where

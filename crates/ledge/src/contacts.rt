@@ -1,7 +1,6 @@
 // How two surfaces, and two ledges, lie to each other.
 ghost use Rattle.std.specs.Prelude.{Decides};
-ghost use Rattle.exact.specs.Sides.{SideNear};
-ghost use Rattle.ledge.specs.Contacts.{RunsRight, IsInLine, MetAs, MeetingNear, Shared};
+ghost use Rattle.ledge.specs.Contacts.{RunsRight, IsInLine, MetAs, MeetingNear, Shared, segment};
 ghost use Rattle.ledge.specs.Parts.{LedgeNear};
 
 use crate::parts::Ledge;
@@ -19,9 +18,7 @@ pub enum Meeting {
 
 // Whether the ends of each lie on the line of the other.
 fn is_in_line(a: Side, b: Side) -> bool
-    requires first { SideNear 2047 a }
-    requires second { SideNear 2047 b }
-    ensures { Decides result (IsInLine a b) }
+    ensures { Decides result (IsInLine (segment a) (segment b)) }
 {
     let (f, g) = (a.against(b), b.against(a));
     f.from == 0 && f.to == 0 && g.from == 0 && g.to == 0
@@ -29,18 +26,14 @@ fn is_in_line(a: Side, b: Side) -> bool
 
 // How two surfaces lie to each other, of which at most one is a single place.
 pub fn meeting_of(a: Side, b: Side) -> Meeting
-    requires first { (SideNear 2047 a) × (RunsRight a b) }
-    requires second { SideNear 2047 b }
-    ensures { MetAs a b result }
+    requires { RunsRight (segment a) (segment b) }
+    ensures { MetAs (segment a) (segment b) result }
 {
-    let Some(place) = meet(a, b) else {
-        return if is_in_line(a, b) {
-            Meeting::InLine
-        } else {
-            Meeting::Apart
-        };
-    };
-    Meeting::Crossing(place)
+    match meet(a, b) {
+        Some(place) => Meeting::Crossing(place),
+        None if is_in_line(a, b) => Meeting::InLine,
+        None => Meeting::Apart,
+    }
 }
 
 impl Meeting {
@@ -52,20 +45,11 @@ impl Meeting {
         ensures { Shared self l m result }
     {
         let place = match self {
-            Meeting::Apart => return None,
-            Meeting::Crossing(place) => place,
-            Meeting::InLine => {
-                if x_order(l.from, m.from).is_lt() {
-                    m.from
-                } else {
-                    l.from
-                }
-            }
+            Meeting::Apart => None,
+            Meeting::Crossing(place) => Some(place),
+            Meeting::InLine if x_order(l.from, m.from).is_lt() => Some(m.from),
+            Meeting::InLine => Some(l.from),
         };
-        if l.holds(place) && m.holds(place) {
-            Some(place)
-        } else {
-            None
-        }
+        place.filter(|place| l.holds(*place) && m.holds(*place))
     }
 }

@@ -1,18 +1,17 @@
 // Falls from the two ends of each obstacle's upper chain.
-ghost use Rattle.std.specs.Prelude.{◌≡◌, ℕ, ◌^◌, ◌<◌, ◌≤◌, map, length, Decides, MatchOption};
-ghost use Rattle.hall.specs.Halls.{task_of};
+ghost use Rattle.std.specs.Prelude.{◌≡◌, ◌<◌, ◌≤◌, length, Decides, MatchOption};
 ghost use Rattle.hall.specs.Shapes.{shape_of};
-ghost use Rattle.obstacle.specs.Freedom.{Obstacles};
-ghost use Rattle.exact.specs.Points.{corner_of, place_of};
-ghost use Rattle.exact.specs.Sides.{CornerNear, PlaceNear};
-ghost use Rattle.ledge.specs.Descents.{Farther, Outermost, TipSide, NoTipSide, DescentIs, AllDescents, end_at};
+ghost use Rattle.hall.specs.Sides.{pair_of};
+ghost use Rattle.exact.specs.Points.{corner_of};
+ghost use Rattle.exact.specs.Sides.{CornerNear};
+ghost use Rattle.ledge.specs.Descents.{TipSide, NoTipSide, TipPair, DescentIs, DescentAt, AllDescents, pair_end};
 
 use crate::floors::floor_of;
-use crate::surfaces::{Surface, is_upper};
-use exact::points::{Corner, Place};
-use hall::halls::Hall;
+use crate::surfaces::Surface;
+use crate::uprights::Upright;
+use exact::points::{Corner, Place, Side};
 use hall::shapes::Shape;
-use obstacle::freedom::is_free;
+use obstacle::sites::Site;
 
 #[derive(Clone, Copy)]
 pub enum Hand {
@@ -28,88 +27,69 @@ pub struct Descent {
     pub floor: Surface,
 }
 
-// The end of an upper side on one hand.
-fn end_of(shape: &Shape<16>, side: usize, hand: Hand) -> Corner
-    requires { side < length (shape_of shape.now) }
-    ensures value { corner_of result ≡ end_at (shape_of shape.now) side hand }
+// The end of an upper side on one hand. An arm for each hand: they share nothing that a closure could leave in place.
+fn end_of(side: Side, hand: Hand) -> Corner
+    ensures value { corner_of result ≡ pair_end (pair_of side) hand }
     ensures bound { CornerNear 2047 result }
 {
-    let run = shape.side(side);
     match hand {
-        Hand::Left => run.to,
-        Hand::Right => run.from,
+        Hand::Left => side.to,
+        Hand::Right => side.from,
     }
-}
-
-// Whether a corner lies farther out than a place.
-fn is_farther(corner: Corner, p: Place, hand: Hand) -> bool
-    requires corner { CornerNear 2047 corner }
-    requires place { PlaceNear (2 ^ 20) (2 ^ 20) p }
-    ensures { Decides result (Farther (corner_of corner) hand (place_of p)) }
-{
-    let x = corner.x * p.w as i64;
-    match hand {
-        Hand::Left => x < p.x,
-        Hand::Right => p.x < x,
-    }
-}
-
-// Whether no corner of the shape does.
-pub(crate) fn is_outermost(shape: &Shape<16>, p: Place, hand: Hand) -> bool
-    requires { PlaceNear (2 ^ 20) (2 ^ 20) p }
-    ensures { Decides result (Outermost (shape_of shape.now) hand (place_of p)) }
-{
-    for i in 0..shape.len() {
-        if is_farther(shape.corner(i), p, hand) {
-            return false;
-        }
-    }
-    true
 }
 
 // The upper side that ends farthest out on one hand.
 fn tip_side(shape: &Shape<16>, hand: Hand) -> Option<usize>
     ensures { MatchOption result (NoTipSide (shape_of shape.now) hand) (λ i. TipSide (shape_of shape.now) hand i) }
 {
-    for i in 0..shape.len() {
-        if is_upper(shape, i) && is_outermost(shape, end_of(shape, i, hand).place(), hand) {
-            return Some(i);
-        }
-    }
-    None
+    shape
+        .sides()
+        .position(|side| is_tip_side(shape, side, hand))
 }
 
-// The fall from the end of an obstacle's upper chain, if the load can stand there.
-fn descent_of(hall: &Hall, obstacles: &[Shape<16>], obstacle: usize, hand: Hand) -> Option<Descent>
-    requires obstacles { Obstacles (task_of hall.now).hall (map shape_of obstacles.now) }
-    requires within { obstacle < length obstacles.now }
-    ensures { DescentIs (task_of hall.now).hall (map shape_of obstacles.now) obstacle hand result }
+// Whether a side is an upper one that ends farthest out on that hand. (`is_upper` asks the same of a side's number: one function for both would be the
+// comparison alone.)
+fn is_tip_side(shape: &Shape<16>, side: Side, hand: Hand) -> bool
+    ensures { Decides result (TipPair (shape_of shape.now) hand (pair_of side)) }
 {
-    let shape = &obstacles[obstacle];
-    let Some(side) = tip_side(shape, hand) else {
-        return None;
+    let end = Upright {
+        p: Place::from(end_of(side, hand)),
     };
-    let tip = end_of(shape, side, hand);
-    if !is_free(hall, obstacles, tip.place()) {
+    side.to.x < side.from.x && end.is_outermost(shape, hand)
+}
+
+// The fall from the end of an obstacle's upper chain, if the load can stand there. That a site has at most 40 obstacles is said here, and of `descent_at`,
+// since nothing in `descents` itself looks into the site.
+fn descent_of(site: &Site, obstacle: usize, hand: Hand) -> Option<Descent>
+    ensures value { DescentIs site.now.task.hall site.now.obstacles obstacle hand result }
+    ensures few { length site.now.obstacles ≤ 40 }
+{
+    let shape = site.obstacles.get(obstacle)?;
+    let side = tip_side(shape, hand)?;
+    let tip = end_of(shape.side(side), hand);
+    let there = Place::from(tip);
+    if !site.is_free(there) {
         return None;
     }
     Some(Descent {
         surface: Surface::Top { obstacle, side },
         tip,
-        floor: floor_of(hall, obstacles, tip.place()),
+        floor: floor_of(site, there),
     })
 }
 
-// All falls: those of obstacle k stand at 2 k, from its left, and at 2 k + 1, from its right.
-pub fn descents(hall: &Hall, obstacles: &[Shape<16>]) -> [Option<Descent>; 80]
-    requires obstacles { Obstacles (task_of hall.now).hall (map shape_of obstacles.now) }
-    requires few { length obstacles.now ≤ 40 }
-    ensures { AllDescents (task_of hall.now).hall (map shape_of obstacles.now) result }
+// All falls: those of obstacle k stand at 2 k, from its left, and at 2 k + 1, from its right. There is no heap here, so the list is as long as the longest.
+pub fn descents(site: &Site) -> [Option<Descent>; 80]
+    ensures { AllDescents site.now.task.hall site.now.obstacles result }
 {
-    let mut all = [None; 80];
-    for k in 0..obstacles.len() {
-        all[2 * k] = descent_of(hall, obstacles, k, Hand::Left);
-        all[2 * k + 1] = descent_of(hall, obstacles, k, Hand::Right);
-    }
-    all
+    std::array::from_fn(|i| descent_at(site, i))
+}
+
+// The fall that stands at i.
+fn descent_at(site: &Site, i: usize) -> Option<Descent>
+    ensures value { DescentAt site.now.task.hall site.now.obstacles i result }
+    ensures few { length site.now.obstacles ≤ 40 }
+{
+    let hand = if i % 2 == 0 { Hand::Left } else { Hand::Right };
+    descent_of(site, i / 2, hand)
 }

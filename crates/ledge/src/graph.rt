@@ -2,8 +2,6 @@
 ghost use Rattle.ledge.specs.Graph.{LedgeGraph};
 
 // Two free places are joined by a way exactly if the ledges of their floors are joined.
-pub fn ledge_graph() -> u8
+pub fn ledge_graph()
     ensures { LedgeGraph }
-{
-    0
-}
+{}

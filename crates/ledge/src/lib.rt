@@ -12,3 +12,4 @@ pub mod runs;
 pub mod shadows;
 pub mod spots;
 pub mod surfaces;
+mod uprights;

@@ -1,4 +1,4 @@
-// Ledges in words: the parts of a map.
+// Ledges in words: the parts of a map. The words are lent by the caller, since a map takes no memory of its own.
 ghost use Rattle.std.specs.Prelude.{◌≡◌, ℕ, ◌+◌, ◌-◌, ◌*◌, ◌^◌, ◌<◌, ◌≤◌, length, Decides};
 ghost use Rattle.exact.specs.Points.{place_of};
 ghost use Rattle.exact.specs.Sides.{PlaceNear};
@@ -14,7 +14,7 @@ pub struct Ledge {
     pub to: Place,
 }
 
-// What a part of the map is.
+// What a part of the map is. No Option: the project wants an enum with data here (docs/DECISIONS.md).
 #[derive(Clone, Copy)]
 pub enum Part {
     Free(Ledge),

@@ -1,6 +1,6 @@
 // Runs of spots that lie in no shadow.
 ghost use Rattle.std.specs.Prelude.{◌≡◌, Decides, MatchOption};
-ghost use Rattle.ledge.specs.Runs.{Lit, Stop, RunFrom};
+ghost use Rattle.ledge.specs.Runs.{Lit, Sooner, Stop, RunFrom};
 
 use crate::shadows::Shadow;
 use crate::spots::Spot;
@@ -16,14 +16,9 @@ pub struct Run {
 fn is_lit(shadows: &[Option<Shadow>], spot: Spot) -> bool
     ensures { Decides result (Lit shadows.now spot.t spot.u) }
 {
-    for shadow in shadows {
-        if let Some(shadow) = shadow {
-            if shadow.holds(spot) {
-                return false;
-            }
-        }
-    }
-    true
+    shadows
+        .iter()
+        .all(|shadow| shadow.is_none_or(|shadow| !shadow.holds(spot)))
 }
 
 // The right end of the surface.
@@ -33,23 +28,25 @@ fn right_end() -> Spot
     Spot { t: 1, u: 0 }
 }
 
+// Where a shadow begins that ends the run from a spot sooner than the stop that was known, or that stop.
+fn sooner(spot: Spot, stop: Spot, from: Spot) -> Spot
+    ensures { Sooner spot stop from result }
+{
+    if !from.order(spot).is_lt() && from.order(stop).is_lt() {
+        from
+    } else {
+        stop
+    }
+}
+
 // Where the first shadow begins that doesn't begin before a spot, or the right end of the surface.
 fn stop_after(shadows: &[Option<Shadow>], spot: Spot) -> Spot
     ensures { Stop shadows.now spot result }
 {
-    let mut stop = right_end();
-    for shadow in shadows {
-        let Some(shadow) = shadow else {
-            continue;
-        };
-        let Some(from) = shadow.from else {
-            continue;
-        };
-        if !from.order(spot).is_lt() && from.order(stop).is_lt() {
-            stop = from;
-        }
-    }
-    stop
+    shadows
+        .iter()
+        .filter_map(|shadow| shadow.and_then(|shadow| shadow.from))
+        .fold(right_end(), |stop, from| sooner(spot, stop, from))
 }
 
 // The run of a surface that begins at a spot, if that lies in no shadow.

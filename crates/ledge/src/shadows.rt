@@ -1,15 +1,12 @@
 // Shadows: the spots of a surface that are inside an obstacle, or beyond a wall.
-ghost use Rattle.std.specs.Prelude.{◌≡◌, ◌<◌, ◌-ℤ◌, Decides, MatchOption};
+ghost use Rattle.std.specs.Prelude.{◌≡◌, ◌<◌, ⊤, None, Decides, MatchOption};
 ghost use Rattle.std.specs.Ordering.{MatchOrdering};
-ghost use Rattle.algebra.specs.Near.{Near};
 ghost use Rattle.exact.specs.Points.{corner_of};
-ghost use Rattle.exact.specs.Sides.{SideNear};
 ghost use Rattle.hall.specs.Shapes.{shape_of};
-ghost use Rattle.ledge.specs.Shadows.{Before, Together, Coursed, Cut, Gone, Dark, Later, Earlier, Opened, Opens, Casts};
+ghost use Rattle.ledge.specs.Shadows.{Before, Together, Coursed, Cut, CutBy, Gone, Dark, Later, Earlier, Opened, Opens, Casts};
 
 use crate::spots::Spot;
-use exact::meets::Ends;
-use exact::points::Side;
+use exact::points::{Ends, Side};
 use hall::shapes::Shape;
 use std::cmp::Ordering;
 
@@ -30,7 +27,8 @@ enum Course {
 }
 
 impl Spot {
-    // Which of two spots comes first, from left to right.
+    // Which of two spots comes first, from left to right. No Ord: spots of other numbers can be together, so equality would be by hand too. And not one
+    // function with exact's `x_order`, whose numbers have signs and other bounds.
     pub fn order(self, other: Spot) -> Ordering
         ensures { MatchOrdering result (Before self.t self.u other.t other.u) (Together self.t self.u other.t other.u) (Before other.t other.u self.t self.u) }
     {
@@ -40,7 +38,6 @@ impl Spot {
 
 // A form's course, from its values at the ends of the surface.
 fn course_of(e: Ends) -> Course
-    requires { Near 33521672 (e.from -ℤ e.to) }
     ensures { Coursed e result }
 {
     if e.from <= 0 && e.to <= 0 {
@@ -60,93 +57,77 @@ fn course_of(e: Ends) -> Course
     }
 }
 
-// The later of two spots, of which the first may not be.
-fn later(a: Option<Spot>, b: Spot) -> Spot
-    ensures { Later a b result }
+// The one of two spots that lies on the wanted side of the other; the second, where there is no first.
+fn farther(end: Option<Spot>, spot: Spot, wanted: Ordering) -> Spot
+    ensures { MatchOrdering wanted (Earlier end spot result) ⊤ (Later end spot result) }
 {
-    match a {
-        Some(a) if a.order(b).is_gt() => a,
-        _ => b,
-    }
-}
-
-// The earlier.
-fn earlier(a: Option<Spot>, b: Spot) -> Spot
-    ensures { Earlier a b result }
-{
-    match a {
-        Some(a) if a.order(b).is_lt() => a,
-        _ => b,
+    match end {
+        Some(end) if end.order(spot) == wanted => end,
+        _ => spot,
     }
 }
 
 impl Shadow {
+    // The whole surface.
+    pub(crate) fn whole() -> Shadow
+        ensures from { result.from ≡ None }
+        ensures to { result.to ≡ None }
+    {
+        Shadow {
+            from: None,
+            to: None,
+        }
+    }
+
     // The shadow, unless no spot is in it.
     fn opened(self) -> Option<Shadow>
         ensures { Opened self result }
     {
-        if let Some(from) = self.from {
-            if let Some(to) = self.to {
-                if !from.order(to).is_lt() {
-                    return None;
-                }
-            }
+        match (self.from, self.to) {
+            (Some(from), Some(to)) if !from.order(to).is_lt() => None,
+            _ => Some(self),
         }
-        Some(self)
     }
 
     // The part of the shadow in which a form is above 0.
     pub(crate) fn cut(self, e: Ends) -> Option<Shadow>
-        requires near { Near 33521672 (e.from -ℤ e.to) }
-        requires opens { Opens self }
         ensures { MatchOption result (Gone self e) (Cut self e) }
     {
         match course_of(e) {
             Course::Nowhere => None,
-            Course::Everywhere => Some(self),
+            Course::Everywhere => self.opened(),
             Course::After(spot) => Shadow {
-                from: Some(later(self.from, spot)),
-                to: self.to,
+                from: Some(farther(self.from, spot, Ordering::Greater)),
+                ..self
             }
             .opened(),
             Course::Before(spot) => Shadow {
-                from: self.from,
-                to: Some(earlier(self.to, spot)),
+                to: Some(farther(self.to, spot, Ordering::Less)),
+                ..self
             }
             .opened(),
         }
+    }
+
+    // The part of the shadow in which a surface lies to the left of a side.
+    fn cut_by(self, surface: Side, side: Side) -> Option<Shadow>
+        ensures { CutBy self surface side result }
+    {
+        self.cut(surface.against(side))
     }
 
     // Whether a spot is in the shadow.
     pub fn holds(self, spot: Spot) -> bool
         ensures { Decides result (Dark self spot.t spot.u) }
     {
-        if let Some(from) = self.from {
-            if !from.order(spot).is_lt() {
-                return false;
-            }
-        }
-        match self.to {
-            Some(to) => spot.order(to).is_lt(),
-            None => true,
-        }
+        self.from.is_none_or(|from| from.order(spot).is_lt())
+            && self.to.is_none_or(|to| spot.order(to).is_lt())
     }
 }
 
 // What a shape leaves dark of a surface, which runs from left to right.
 pub fn cast<const N: usize>(shape: &Shape<N>, surface: Side) -> Option<Shadow>
-    requires { SideNear 2047 surface }
     ensures { Casts (shape_of shape.now) (corner_of surface.from) (corner_of surface.to) result }
 {
-    let mut shadow = Shadow {
-        from: None,
-        to: None,
-    };
-    for i in 0..shape.len() {
-        let Some(rest) = shadow.cut(surface.against(shape.side(i))) else {
-            return None;
-        };
-        shadow = rest;
-    }
-    Some(shadow)
+    shape.sides().try_fold(Shadow::whole(), |shadow, side| shadow.cut_by(surface, side))
 }

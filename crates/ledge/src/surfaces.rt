@@ -1,18 +1,20 @@
 // The surfaces of a hall, as values.
 ghost use Rattle.std.specs.Prelude.{◌≡◌, ◌≤◌, map, length, Decides, MatchOption};
 ghost use Rattle.exact.specs.Points.{corner_of};
-ghost use Rattle.exact.specs.Sides.{SideNear};
 ghost use Rattle.hall.specs.Halls.{task_of};
 ghost use Rattle.hall.specs.Shapes.{shape_of};
 ghost use Rattle.algebra.specs.Hall.{corner};
+ghost use Rattle.ledge.specs.Landings.{form_of};
 ghost use Rattle.ledge.specs.Sides.{Upper, end};
-ghost use Rattle.ledge.specs.Surfaces.{Stands, top, obstacle as obstacle_of};
+ghost use Rattle.ledge.specs.Surfaces.{Stands, above, top, obstacle as obstacle_of};
 ghost use Rattle.ledge.specs.Lines.{surface_of, left_end, right_end, number, Numbered, Unnumbered};
 
+use crate::uprights::Slope;
 use exact::points::{Corner, Side};
 use hall::halls::Hall;
 use hall::shapes::Shape;
 
+// Functions that take obstacles beside a surface ask that it stands among them; a type of both would have to ask that its obstacles are theirs.
 #[derive(Clone, Copy)]
 pub enum Surface {
     // the bottom wall
@@ -21,7 +23,7 @@ pub enum Surface {
     Top { obstacle: usize, side: usize },
 }
 
-// Whether a side of a shape is an upper one.
+// Whether a side of a shape is an upper one. By number, as here a surface names its side.
 pub fn is_upper(shape: &Shape<16>, side: usize) -> bool
     ensures { Decides result (Upper (shape_of shape.now) side) }
 {
@@ -32,22 +34,23 @@ pub fn is_upper(shape: &Shape<16>, side: usize) -> bool
     run.to.x < run.from.x
 }
 
-// An upper side of an obstacle as a side that runs to the right.
-pub(crate) fn roof_of(obstacles: &[Shape<16>], k: usize, i: usize) -> Side
+// An upper side of an obstacle, both by number, as a line that runs to the right.
+pub(crate) fn roof_of(obstacles: &[Shape<16>], k: usize, i: usize) -> Slope
     requires { Stands (map shape_of obstacles.now) (top k i) }
-    ensures from { corner_of result.from ≡ end (obstacle_of (map shape_of obstacles.now) k) i }
-    ensures to { corner_of result.to ≡ corner (obstacle_of (map shape_of obstacles.now) k) i }
-    ensures bound { SideNear 2047 result }
+    ensures from { corner_of result.side.from ≡ end (obstacle_of (map shape_of obstacles.now) k) i }
+    ensures to { corner_of result.side.to ≡ corner (obstacle_of (map shape_of obstacles.now) k) i }
 {
     let run = obstacles[k].side(i);
-    Side {
-        from: run.to,
-        to: run.from,
+    Slope {
+        side: Side {
+            from: run.to,
+            to: run.from,
+        },
     }
 }
 
 impl Surface {
-    // Its number: 16 are kept for the sides of each obstacle.
+    // Its number, by which it has its part of the lent words of a map: 16 are kept for the sides of each obstacle.
     pub fn number(self) -> usize
         requires { number (surface_of self) ≤ 1000000 }
         ensures { result ≡ number (surface_of self) }
@@ -58,12 +61,27 @@ impl Surface {
         }
     }
 
-    // The surface as a side that runs from left to right.
+    // The line that it lies on. That of the bottom wall has a length of its own, since a hall may have no width.
+    pub(crate) fn slope(self, obstacles: &[Shape<16>]) -> Slope
+        requires { Stands (map shape_of obstacles.now) (surface_of self) }
+        ensures { form_of result.side ≡ above (map shape_of obstacles.now) (surface_of self) }
+    {
+        match self {
+            Surface::Bottom => Slope {
+                side: Side {
+                    from: Corner { x: 0, y: 0 },
+                    to: Corner { x: 1, y: 0 },
+                },
+            },
+            Surface::Top { obstacle, side } => roof_of(obstacles, obstacle, side),
+        }
+    }
+
+    // The surface as a side that runs from left to right; any shapes will do, so it asks no site.
     pub fn line(self, hall: &Hall, obstacles: &[Shape<16>]) -> Side
         requires { Stands (map shape_of obstacles.now) (surface_of self) }
         ensures from { corner_of result.from ≡ left_end (map shape_of obstacles.now) (surface_of self) }
         ensures to { corner_of result.to ≡ right_end (task_of hall.now).hall (map shape_of obstacles.now) (surface_of self) }
-        ensures bound { SideNear 2047 result }
     {
         match self {
             Surface::Bottom => Side {
@@ -73,7 +91,7 @@ impl Surface {
                     y: 0,
                 },
             },
-            Surface::Top { obstacle, side } => roof_of(obstacles, obstacle, side),
+            Surface::Top { obstacle, side } => roof_of(obstacles, obstacle, side).side,
         }
     }
 }
@@ -86,9 +104,6 @@ pub fn surface_at(obstacles: &[Shape<16>], number: usize) -> Option<Surface>
         return Some(Surface::Bottom);
     }
     let (obstacle, side) = ((number - 1) / 16, (number - 1) % 16);
-    if obstacle < obstacles.len() && is_upper(&obstacles[obstacle], side) {
-        Some(Surface::Top { obstacle, side })
-    } else {
-        None
-    }
+    let shape = obstacles.get(obstacle)?;
+    is_upper(shape, side).then_some(Surface::Top { obstacle, side })
 }

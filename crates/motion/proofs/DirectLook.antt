@@ -11,7 +11,7 @@ use Rattle.hall.specs.Tasks.{Bounded}
 use Rattle.obstacle.specs.Freedom.{Obstacles}
 use Rattle.motion.specs.Checking.{PassesAll, EntersFirst}
 use Rattle.motion.proofs.DriveStretches.{straight_from, from_free, to_free}
-use Rattle.motion.proofs.Judgement.{bounded_holds}
+use Rattle.motion.proofs.Judging.{bounded_holds}
 
 -- a way starts and ends at free places: its first stretch starts there, its last one ends there
 pub way_start : (h : Hall) (s t : Place) (ps : List Place) → Way h s ps t → Free h s

@@ -1,6 +1,6 @@
 -- Places that are right and stretches on which nothing is met make a way that can be driven. Assumes nothing.
 use Rattle.std.proofs.Common.{◌≡◌, ℕ, suc, ◌+◌, ◌-◌, ◌<◌, List, [], ◌∷◌, ◌++◌, length, refl, ap, subst, inl, inr, arith}
-use Rattle.std.proofs.lemmas.Bool.{ne_eqb}
+use Rattle.std.proofs.lemmas.Bool.Decides.{nat_tests}
 use Rattle.algebra.specs.Hall.{Place, Hall, Straight, Way}
 use Rattle.algebra.specs.Forms.{Same}
 use Rattle.algebra.proofs.Forms.{same_place}
@@ -9,10 +9,10 @@ use Rattle.motion.proofs.DriveStretches.{straight_from, straight_same, to_free}
 
 -- ---- the numbers of stretches
 pub stretches_many : (n : ℕ) → 1 < n → stretches n ≡ n - 1
-stretches_many n h = rw (ne_eqb n 1 (λ e. omega arith)) refl
+stretches_many n h = grind (arith, nat_tests)
 
 pub ahead_next : (ps : List Place) (k : ℕ) → k + 1 < length ps → ahead (length ps) k ≡ suc k
-ahead_next ps k h = rw (ne_eqb (k + 1) (length ps) (λ e. omega arith)) (omega arith)
+ahead_next ps k h = grind (arith, nat_tests)
 
 -- ---- places in a row: those before the last, and the last
 abbrev before_last : Place → List Place → List Place

@@ -1,6 +1,6 @@
 -- A way that can be driven has right places, and meets nothing on its stretches: so the checker doesn't refuse it. Assumes nothing.
 use Rattle.std.proofs.Common.{◌≡◌, ℕ, zero, suc, ◌+◌, ◌-◌, ◌<◌, List, [], ◌∷◌, ◌++◌, length, sym, refl, subst, ⊎_elim, arith}
-use Rattle.std.proofs.lemmas.Bool.{cases_eq}
+use Rattle.std.proofs.lemmas.Bool.Decides.{nat_tests}
 use Rattle.hall.specs.declared.refusals.Refusal.TheVariants.{Length, Number, Count, Bend, Slice, Waypoint, Collision, Memory}
 use Rattle.algebra.specs.Hall.{Place, Hall, Free, Straight, Way}
 use Rattle.algebra.specs.Forms.{Same}
@@ -76,7 +76,7 @@ driven h s t ps real d =
     d.places
 
 stretches>0 : (n : ℕ) → 0 < n → 0 < stretches n
-stretches>0 n h = ⊎_elim (λ (e : n ≡ 1). rw e (omega arith)) (λ e. omega (arith, stretches_many n (omega arith))) (cases_eq n 1)
+stretches>0 n h = grind (arith, nat_tests)
 
 -- ---- every place is free, so right
 module _ (h : Hall) (s t : Place) (ps : List Place) (d : Driven h s t ps) where

@@ -1,41 +1,23 @@
 -- From what the parts of the checker say of obstacles to what the checker says of things. Assumes nothing.
-use Rattle.std.proofs.Common.{◌≡◌, ℕ, ◌<◌, T, List, [], map, length, get_or, IsErrAnd, Ok, Err, Result, sym, subst, arith}
-use Rattle.std.specs.List.{list_all}
-use Rattle.std.proofs.lemmas.List.{get_or_default}
+use Rattle.std.proofs.Common.{vec_items, ◌-◌, ◌^◌, ◌≡◌, ℕ, ◌<◌, List, [], length, get_or, IsErrAnd, Ok, Err, Result, sym, subst, arith}
 use Rattle.std.proofs.lemmas.Result.{err_from_is_err_and}
-use Rattle.std.proofs.lemmas.Bool.{and_parts, leb-true}
 use Rattle.algebra.specs.Hall.{Place, Shape, Hall, between}
 use Rattle.algebra.proofs.Forms.{stretch}
-use Rattle.exact.specs.declared.points.Place as code
-use Rattle.exact.specs.Points.{place_of}
 use Rattle.hall.specs.declared.refusals.Refusal.{Refusal}
 use Rattle.hall.specs.declared.refusals.Refusal.TheVariants.{Memory}
-use Rattle.hall.specs.Outlines.{bounded}
-use Rattle.hall.specs.Tasks.{Bounded}
-use Rattle.hall.proofs.Kept.{true_from_holds}
-use Rattle.hall.proofs.Taken.{near_from_test}
 use Rattle.obstacle.specs.Freedom.{Obstacles}
-use Rattle.obstacle.proofs.Freely.{all_pass_at}
+use Rattle.std.proofs.lemmas.List.{length-map}
+use Rattle.exact.specs.Points.{place_of}
+use Rattle.hall.specs.declared.halls.Hall as hall
+use Rattle.hall.specs.declared.routes.Route as route
+use Rattle.hall.specs.Halls.{task_of}
+use Rattle.hall.specs.Routes.{places_of}
 use Rattle.motion.specs.Checking.{AllRight, WrongPlace, Blocked, StretchPasses, PassesAll, StretchesJudged}
 use Rattle.motion.specs.Driving.{place, ahead, stretches, Drives, Judged, Collides}
 use Rattle.motion.specs.Stretch.{Enters}
 use Rattle.motion.proofs.DriveClear.{drives_if_clear}
 use Rattle.motion.proofs.DriveNever.{never_refused}
-use Rattle.motion.proofs.Judging.{nowhere, place_read, stretches_within, ahead_within}
-
--- ---- the places of a way that was read
-pub bounded_holds : (m : ℕ) (p : code.Place) → T (bounded m p) → Bounded m (place_of p)
-unfolding bounded
-bounded_holds m p t =
-    let a = and_parts _ _ (true_from_holds _ t) in
-    let b = and_parts _ _ a.0 in
-    let c = and_parts _ _ a.1 in
-    record { x = near_from_test m p.x b.0; y = near_from_test m p.y b.1; real = leb-true 1 p.w c.0; w = leb-true p.w m c.1 }
-
-pub route_bounded : (m : ℕ) (ps : List code.Place) → T (list_all (bounded m) ps) → (k : ℕ) → k < length ps → Bounded m (place (map place_of ps) k)
-route_bounded m ps t k h =
-    let x = get_or ps k nowhere in
-    subst (Bounded m) (sym (place_read ps k h)) (bounded_holds m x (all_pass_at (bounded m) ps k x h (get_or_default ps k nowhere x h) t))
+use Rattle.motion.proofs.Judging.{bounded_holds, route_bounded, stretches_within, ahead_within}
 
 -- ---- the verdict
 pub judged_wrong : (h : Hall) (s t : Place) (ps : List Place) (r : Result (Unit {0}) Refusal) (e : Refusal) → IsErrAnd r (λ y. y ≡ e) → WrongPlace h s t ps e → Judged h s t ps r
@@ -84,10 +66,26 @@ module _ (h : Hall) (s t : Place) (ps : List Place) (gs : List Shape) (o : Obsta
   pub judged_clear : AllRight h s t ps → ((a : ℕ) → a < stretches (length ps) → StretchPasses gs ps a) → Drives h s t ps
   judged_clear a p = drives_if_clear h s t ps sw tw real a.some a.right (λ k l. none_met k l (p k l))
 
-  pub judged : (r : Result (Unit {0}) Refusal) → AllRight h s t ps → StretchesJudged gs ps r → Judged h s t ps r
+  judged : (r : Result (Unit {0}) Refusal) → AllRight h s t ps → StretchesJudged gs ps r → Judged h s t ps r
   judged (Ok x) a j = judged_clear a j
   judged (Err e) a j = judged_blocked e a j
 
--- a way that can be driven is never refused
-pub exactly : (h : Hall) (s t : Place) (ps : List Place) → 0 < s.w → 0 < t.w → ((k : ℕ) → k < length ps → 0 < (place ps k).w) → (r : Result (Unit {0}) Refusal) → Judged h s t ps r → Drives h s t ps → (e : Refusal) → r ≡ Err e → e ≡ Memory
-exactly h s t ps sw tw real r j d e q = never_refused h s t ps e sw tw real (subst (Judged h s t ps) q j) d
+-- ---- of a hall and a way of the code
+module _ (h : hall.Hall) (r : route.Route) where
+  start-real : 0 < (task_of h).start.w
+  start-real = (bounded_holds (2 ^ 20) h.start h.ends.0).real
+
+  goal-real : 0 < (task_of h).goal.w
+  goal-real = (bounded_holds (2 ^ 20) h.goal h.ends.1).real
+
+  route-real : (k : ℕ) → k < length (places_of r) → 0 < (place (places_of r) k).w
+  route-real k l = (route_bounded (2 ^ 60 - 1) (vec_items r.places) r.near k (omega (arith, length-map (vec_items r.places) place_of))).real
+
+  -- a way that can be driven is never refused
+  pub exactly : (x : Result (Unit {0}) Refusal) → Judged (task_of h).hall (task_of h).start (task_of h).goal (places_of r) x → Drives (task_of h).hall (task_of h).start (task_of h).goal (places_of r) → (e : Refusal) → x ≡ Err e → e ≡ Memory
+  exactly x j d e q =
+      never_refused (task_of h).hall (task_of h).start (task_of h).goal (places_of r) e start-real goal-real route-real
+      (subst (Judged (task_of h).hall (task_of h).start (task_of h).goal (places_of r)) q j) d
+
+  pub judged_route : (gs : List Shape) → Obstacles (task_of h).hall gs → (x : Result (Unit {0}) Refusal) → AllRight (task_of h).hall (task_of h).start (task_of h).goal (places_of r) → StretchesJudged gs (places_of r) x → Judged (task_of h).hall (task_of h).start (task_of h).goal (places_of r) x
+  judged_route gs o = judged (task_of h).hall (task_of h).start (task_of h).goal (places_of r) gs o start-real goal-real route-real

@@ -1,3 +1,4 @@
+pub mod Asking
 pub mod Wedges
 pub mod Settle
 pub mod Valued
@@ -8,5 +9,6 @@ pub mod DriveStretches
 pub mod DriveClear
 pub mod DriveNever
 pub mod Judging
+pub mod Stepping
 pub mod Judgement
 pub mod DirectLook

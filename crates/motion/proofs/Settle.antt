@@ -8,8 +8,7 @@ use Rattle.algebra.proofs.Order.{signs, pos≥0}
 use Rattle.algebra.proofs.Forms.{side_is_form, interpolation}
 use Rattle.algebra.proofs.Places.{edge_along}
 use Rattle.motion.specs.Stretch.{Enters, Passes, Outside, Parted, StretchSettled}
-use Rattle.motion.specs.Ends.{Nowhere, Apart}
-use Rattle.motion.proofs.Wedges.{on, Wedge, Outcome, outcome, never_both}
+use Rattle.motion.proofs.Wedges.{Nowhere, Apart, on, Wedge, Outcome, outcome, never_both}
 
 -- a side's value on a stretch, from those at its ends
 edge_on : (g : Shape) (i : ℕ) (p q : Place) (t u : ℕ) → edge g i (between p q t u) ≡ on (edge g i p) (edge g i q) (pos (q.w * u)) (pos (p.w * t))

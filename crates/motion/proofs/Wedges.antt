@@ -3,9 +3,24 @@
 use Rattle.std.proofs.Common.{◌≡◌, ℕ, zero, suc, ◌+◌, ◌<◌, ◌⊎◌, [], ◌∷◌, ℤ, pos, ◌+ℤ◌, ◌-ℤ◌, ◌*ℤ◌, neg_ℤ, ◌≤ℤ◌, ◌<ℤ◌, refl, inl, inr, add-one, arith, below_more}
 use borrow.Author.Differences.{ints}
 use Rattle.std.proofs.lemmas.Int.{by_lt_z}
-use Rattle.motion.specs.Ends.{Nowhere, Late, Apart}
+use Rattle.motion.specs.Ends.{Late}
 use Rattle.algebra.proofs.Polynomial.{forms, by_ring}
 use Rattle.algebra.proofs.Order.{signs, neg>0, neg≥0, product>0, product≥0, factor>0, factor≥0, by-<, by-≤}
+
+-- of n values that go from a i to b i, one is above 0 at neither end
+pub record Nowhere (a b : ℕ → ℤ) (n : ℕ) : Type 0 where
+  pub i : ℕ
+  pub within : i < n
+  pub from : a i ≤ℤ pos 0
+  pub to : b i ≤ℤ pos 0
+
+-- two of them are nowhere both above 0
+pub record Apart (a b : ℕ → ℤ) (n : ℕ) : Type 0 where
+  pub i : ℕ
+  pub j : ℕ
+  pub i_within : i < n
+  pub j_within : j < n
+  pub pair : Late (a i) (b i) (a j) (b j)
 
 -- the form's value on a ray
 abbrev pub on : ℤ → ℤ → ℤ → ℤ → ℤ

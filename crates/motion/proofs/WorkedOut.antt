@@ -7,6 +7,7 @@ use Rattle.algebra.specs.Forms.{Form, value}
 use Rattle.algebra.proofs.Order.{weaker}
 use Rattle.algebra.proofs.Forms.{crossing}
 use Rattle.algebra.proofs.Places.{straightness}
+use Rattle.motion.proofs.DirectLook.{way_start}
 use Rattle.motion.specs.Worked.{room, spot, none, Example, Holds, table, WorkedHalls}
 use Rattle.motion.proofs.WorkedOutBoxes.{four, meets_near, meets_at}
 
@@ -80,11 +81,6 @@ unfolding value
 low_door = never_right (example 2).from (example 2).to (omega (arith, ints)) (omega (arith, ints))
 
 -- ---- a start that isn't free
-start_free : (h : Hall) (s t : Place) (ps : List Place) → Way h s ps t → Free h s
-unfolding Way
-start_free h s t [] a = straightness.start h s t a
-start_free h s t (p ∷ ps) a = straightness.start h s p a.0
-
 start_met : Meets (hall 3).load (get_or (hall 3).things 0 []) (example 3).from
 unfolding plus
 start_met =
@@ -92,7 +88,7 @@ start_met =
     (four _ (omega (arith, ints)) (omega (arith, ints)) (omega (arith, ints)) (omega (arith, ints)))
 
 met_at_start : Holds (example 3)
-met_at_start ps a = (start_free (hall 3) (example 3).from (example 3).to ps a).things 0 (omega arith) start_met
+met_at_start ps a = (way_start (hall 3) (example 3).from (example 3).to ps a).things 0 (omega arith) start_met
 
 pub worked_halls : WorkedHalls
 worked_halls = (nothing_stands, (door, (low_door, (met_at_start, tt))))

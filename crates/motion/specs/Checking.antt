@@ -1,10 +1,20 @@
 -- What the parts of the checker say. Assumes nothing: these are definitions.
 use Rattle.std.specs.Prelude.{◌≡◌, ℕ, ◌<◌, List, [], length, Result, MatchResult, slice_index_or}
-use Rattle.algebra.specs.Hall.{Place, Hall, Shape}
+use Rattle.algebra.specs.Hall.{Place, Hall, Shape, Within}
 use Rattle.hall.specs.declared.refusals.Refusal.{Refusal}
 use Rattle.hall.specs.declared.refusals.Refusal.TheVariants.{Waypoint, Collision}
+use Rattle.hall.specs.Tasks.{Task}
 use Rattle.motion.specs.Driving.{Right, FirstWrong, place, ahead, stretches}
 use Rattle.motion.specs.Stretch.{Enters, Passes}
+
+-- all places are in the hall, or which is the first that isn't
+abbrev pub AllInHall : Hall → List Place → Type 0
+AllInHall h ps = (i : ℕ) → i < length ps → Within h (place ps i)
+
+pub record FirstOutside (h : Hall) (ps : List Place) (k : ℕ) : Type 0 where
+  pub within : k < length ps
+  pub here : Within h (place ps k) → ⊥
+  pub before : (i : ℕ) → i < k → Within h (place ps i)
 
 -- all places are right, or which is the first that isn't
 pub record WrongPlace (h : Hall) (s t : Place) (ps : List Place) (e : Refusal) : Type 0 where
@@ -16,8 +26,8 @@ pub record AllRight (h : Hall) (s t : Place) (ps : List Place) : Type 0 where
   pub some : 0 < length ps
   pub right : (i : ℕ) → i < length ps → Right h s t ps i
 
-abbrev pub PlacesJudged : Hall → Place → Place → List Place → Result (Unit {0}) Refusal → Type 0
-PlacesJudged h s t ps r = MatchResult r (λ _. AllRight h s t ps) (λ e. WrongPlace h s t ps e)
+abbrev pub PlacesJudged : Task → List Place → Result (Unit {0}) Refusal → Type 0
+PlacesJudged t ps r = MatchResult r (λ _. AllRight t.hall t.start t.goal ps) (λ e. WrongPlace t.hall t.start t.goal ps e)
 
 -- a stretch passes all obstacles, or which is the first that it enters
 unfoldable pub PassesAll : List Shape → Place → Place → Type 0

@@ -1,15 +1,15 @@
 // The checker of ways: anybody may bring one.
-ghost use Rattle.std.specs.Prelude.{◌≡◌, ℕ, ◌+◌, ◌-◌, ◌^◌, ◌<◌, map, length, Err, Decides, MatchOption};
-ghost use Rattle.algebra.specs.Forms.{Same};
+ghost use Rattle.std.specs.Prelude.{◌≡◌, ℕ, ◌+◌, ◌-◌, ◌^◌, ◌<◌, map, length, Err, MatchOption, T, slice_index_or};
+ghost use Rattle.std.specs.List.{list_all};
 ghost use Rattle.exact.specs.Points.{place_of};
 ghost use Rattle.hall.specs.Halls.{task_of};
+ghost use Rattle.hall.specs.Outlines.{bounded};
 ghost use Rattle.hall.specs.Shapes.{shape_of};
-ghost use Rattle.hall.specs.Tasks.{Bounded};
-ghost use Rattle.motion.specs.Checking.{PlacesJudged, PassesAll, EntersFirst, StretchesJudged};
-ghost use Rattle.motion.specs.Driving.{Right, Drives, Judged, place, ahead, stretches};
+ghost use Rattle.motion.specs.Checking.{AllInHall, FirstOutside, PlacesJudged, PassesAll, EntersFirst, StretchesJudged};
+ghost use Rattle.motion.specs.Driving.{Drives, Judged, ahead, stretches};
 ghost use Rattle.hall.specs.Routes.{places_of};
 
-use crate::stretches::is_clear;
+use crate::stretches::Stretch;
 use exact::orders::same_place;
 use exact::points::Place;
 use hall::halls::Hall;
@@ -20,100 +20,78 @@ use obstacle::all::grow_all;
 use obstacle::freedom::is_within;
 use std::alloc::Global;
 
-// Whether p is the start, if it is place 0.
-fn starts(hall: &Hall, p: Place, k: usize) -> bool
-    ensures { Decides result (k ≡ 0 → Same (place_of p) (task_of hall.now).start) }
+// The first place that isn't in the hall.
+fn first_outside(hall: &Hall, places: &[Place]) -> Option<usize>
+    ensures { MatchOption result (AllInHall (task_of hall.now).hall (map place_of places.now)) (λ k. FirstOutside (task_of hall.now).hall (map place_of places.now) k) }
 {
-    k != 0 || same_place(p, hall.start())
-}
-
-// Whether p is the goal, if it is the last of n.
-fn ends(hall: &Hall, p: Place, k: usize, n: usize) -> bool
-    requires { k < n }
-    ensures { Decides result (k + 1 ≡ n → Same (place_of p) (task_of hall.now).goal) }
-{
-    k + 1 != n || same_place(p, hall.goal())
-}
-
-// Whether place k is in the hall, and is the start or the goal where it has to be.
-fn is_right(hall: &Hall, places: &[Place], k: usize) -> bool
-    requires { k < length places.now }
-    ensures { Decides result (Right (task_of hall.now).hall (task_of hall.now).start (task_of hall.now).goal (map place_of places.now) k) }
-{
-    let p = places[k];
-    if !is_within(hall, p) {
-        return false;
-    }
-    starts(hall, p, k) && ends(hall, p, k, places.len())
+    places.iter().position(|p| !is_within(hall, *p))
 }
 
 fn check_places(hall: &Hall, places: &[Place]) -> Result<(), Refusal>
-    ensures { PlacesJudged (task_of hall.now).hall (task_of hall.now).start (task_of hall.now).goal (map place_of places.now) result }
+    ensures { PlacesJudged (task_of hall.now) (map place_of places.now) result }
 {
-    if places.is_empty() {
+    if places.is_empty() || !same_place(places[0], hall.start()) {
         return Err(Refusal::Waypoint(0));
     }
-    for k in 0..places.len() {
-        if !is_right(hall, places, k) {
-            return Err(Refusal::Waypoint(k));
-        }
+    if let Some(k) = first_outside(hall, places) {
+        return Err(Refusal::Waypoint(k));
+    }
+    let last = places.len() - 1;
+    if !same_place(places[last], hall.goal()) {
+        return Err(Refusal::Waypoint(last));
     }
     Ok(())
 }
 
 // The first obstacle that a stretch enters.
-pub(crate) fn first_met(obstacles: &[Shape<16>], p: Place, q: Place) -> Option<usize>
-    requires from { Bounded (2 ^ 60 - 1) (place_of p) }
-    requires to { Bounded (2 ^ 60 - 1) (place_of q) }
-    ensures { MatchOption result (PassesAll (map shape_of obstacles.now) (place_of p) (place_of q)) (λ j. EntersFirst (map shape_of obstacles.now) (place_of p) (place_of q) j) }
+pub(crate) fn first_met(obstacles: &[Shape<16>], stretch: Stretch) -> Option<usize>
+    ensures { MatchOption result (PassesAll (map shape_of obstacles.now) (place_of stretch.from) (place_of stretch.to)) (λ j. EntersFirst (map shape_of obstacles.now) (place_of stretch.from) (place_of stretch.to) j) }
 {
-    for (thing, obstacle) in obstacles.iter().enumerate() {
-        if !is_clear(obstacle, p, q) {
-            return Some(thing);
-        }
+    obstacles
+        .iter()
+        .position(|obstacle| !stretch.is_clear(obstacle))
+}
+
+// Where each stretch of a way ends; a way of one place is a stretch from there to there.
+fn stretch_ends(places: &[Place]) -> &[Place]
+    ensures count { length result.now ≡ stretches (length places.now) }
+    ensures each { (k : ℕ) (d : Place) → k < stretches (length places.now) → slice_index_or result.now k d ≡ slice_index_or places.now (ahead (length places.now) k) d }
+{
+    if places.len() > 1 {
+        &places[1..]
+    } else {
+        places
     }
-    None
-}
-
-// How many stretches a way of n places has; one of one place is its own.
-fn count_stretches(n: usize) -> usize
-    ensures { result ≡ stretches n }
-{
-    if n == 1 { 1 } else { n.saturating_sub(1) }
-}
-
-// Where stretch k ends, of n places.
-fn ahead_of(n: usize, k: usize) -> usize
-    requires { k < n }
-    ensures value { result ≡ ahead n k }
-    ensures bound { result < n }
-{
-    if k + 1 == n { k } else { k + 1 }
 }
 
 fn check_stretches(obstacles: &[Shape<16>], places: &[Place]) -> Result<(), Refusal>
-    requires { (k : ℕ) → k < length places.now → Bounded (2 ^ 60 - 1) (place (map place_of places.now) k) }
+    requires { T (list_all (bounded (2 ^ 60 - 1)) places.now) }
     ensures { StretchesJudged (map shape_of obstacles.now) (map place_of places.now) result }
 {
-    let n = places.len();
-    for k in 0..count_stretches(n) {
-        let Some(thing) = first_met(obstacles, places[k], places[ahead_of(n, k)]) else {
+    // An obstacle that may not be met is taken by `let .. else` (docs/DECISIONS.md, "Language forms"), so this is a loop.
+    for (stretch, (from, to)) in places.iter().zip(stretch_ends(places)).enumerate() {
+        let Some(thing) = first_met(
+            obstacles,
+            Stretch {
+                from: *from,
+                to: *to,
+            },
+        ) else {
             continue;
         };
-        return Err(Refusal::Collision { stretch: k, thing });
+        return Err(Refusal::Collision { stretch, thing });
     }
     Ok(())
 }
 
-// Whether a way can be driven in a hall, from its start to its goal; else what is wrong with it first.
+// Whether a way can be driven in a hall, from its start to its goal; else what is wrong with it first. The clauses name hall, start and goal apart, as
+// the laws of ways do.
 pub fn check_route(heap: Global, hall: &Hall, route: &Route) -> Result<(), Refusal>
     ensures judged { Judged (task_of hall.now).hall (task_of hall.now).start (task_of hall.now).goal (places_of route.now) result }
     ensures exact { Drives (task_of hall.now).hall (task_of hall.now).start (task_of hall.now).goal (places_of route.now) → (e : _) → result ≡ Err e → e ≡ Refusal.Memory }
 {
     let places = route.places();
     check_places(hall, places)?;
-    match grow_all(heap, hall) {
-        Ok(obstacles) => check_stretches(obstacles.as_slice(), places),
-        Err(_) => Err(Refusal::Memory),
-    }
+    let obstacles = grow_all(heap, hall)?;
+    check_stretches(obstacles.as_slice(), places)
 }

@@ -1,15 +1,13 @@
 // What the straight stretch from start to goal shows of a hall.
-ghost use Rattle.std.specs.Prelude.{map, IfOk};
+ghost use Rattle.std.specs.Prelude.{IfOk};
 ghost use Rattle.hall.specs.Halls.{task_of};
-ghost use Rattle.hall.specs.Shapes.{shape_of};
-ghost use Rattle.obstacle.specs.Freedom.{Obstacles};
 ghost use Rattle.motion.specs.Direct.{Seen};
 
 use crate::checker::first_met;
+use crate::stretches::Stretch;
 use hall::halls::Hall;
-use hall::shapes::Shape;
 use obstacle::all::grow_all;
-use obstacle::freedom::is_free;
+use obstacle::sites::Site;
 use std::alloc::{AllocError, Global};
 
 #[derive(Clone, Copy, Debug)]
@@ -23,28 +21,30 @@ pub enum Outlook {
 }
 
 // What it shows among the obstacles of the hall.
-fn look_among(hall: &Hall, obstacles: &[Shape<16>]) -> Outlook
-    requires { Obstacles (task_of hall.now).hall (map shape_of obstacles.now) }
-    ensures { Seen (task_of hall.now).hall (task_of hall.now).start (task_of hall.now).goal result }
+fn look_among(site: &Site) -> Outlook
+    ensures { Seen site.now.task.hall site.now.task.start site.now.task.goal result }
 {
-    let start = hall.start();
-    let goal = hall.goal();
-    if !is_free(hall, obstacles, start) {
+    let (start, goal) = (site.hall.start(), site.hall.goal());
+    if !site.is_free(start) {
         return Outlook::Shut;
     }
-    if !is_free(hall, obstacles, goal) {
+    if !site.is_free(goal) {
         return Outlook::Shut;
     }
-    match first_met(obstacles, start, goal) {
+    let stretch = Stretch {
+        from: start,
+        to: goal,
+    };
+    match first_met(site.obstacles, stretch) {
         Some(_) => Outlook::Open,
         None => Outlook::Straight,
     }
 }
 
-// Whether the straight stretch from start to goal is a way, or shows at once that there is none.
+// Whether the straight stretch from start to goal is a way, or shows at once that there is none. Hall, start and goal stand apart, as in `check_route`.
 pub fn look_straight(heap: Global, hall: &Hall) -> Result<Outlook, AllocError>
     ensures { IfOk result (λ o. Seen (task_of hall.now).hall (task_of hall.now).start (task_of hall.now).goal o) }
 {
     let obstacles = grow_all(heap, hall)?;
-    Ok(look_among(hall, obstacles.as_slice()))
+    Ok(look_among(&Site::new(hall, obstacles.as_slice())))
 }

@@ -2,15 +2,11 @@
 ghost use Rattle.motion.specs.Driving.{DrivesIfClear, NeverRefused};
 
 // Places that are right, and stretches on which the load meets nothing, make a way that can be driven.
-pub fn drives_if_clear() -> u8
+pub fn drives_if_clear()
     ensures { DrivesIfClear }
-{
-    0
-}
+{}
 
 // A way that can be driven is never refused, unless there is no memory.
-pub fn never_refused() -> u8
+pub fn never_refused()
     ensures { NeverRefused }
-{
-    0
-}
+{}

@@ -2,8 +2,6 @@
 ghost use Rattle.motion.specs.Stretch.{StretchSettled};
 
 // A stretch enters a shape, or a side or two of the shape show that it passes.
-pub fn stretch_settled() -> u8
+pub fn stretch_settled()
     ensures { StretchSettled }
-{
-    0
-}
+{}

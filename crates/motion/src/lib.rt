@@ -4,6 +4,7 @@
 pub mod checker;
 pub mod direct;
 pub mod driving_laws;
+pub mod ends;
 pub mod laws;
 pub mod stretches;
 #[cfg(test)]

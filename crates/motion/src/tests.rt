@@ -1,9 +1,8 @@
 // Cases with numbers.
-ghost use Rattle.std.specs.Prelude.{◌-◌, ◌^◌, ◌<◌};
-ghost use Rattle.exact.specs.Points.{place_of};
-ghost use Rattle.hall.specs.Tasks.{Bounded};
+ghost use Rattle.std.specs.Prelude.{◌-◌, ◌^◌, ◌<◌, T};
+ghost use Rattle.hall.specs.Outlines.{bounded};
 
-use crate::stretches::is_clear;
+use crate::stretches::Stretch;
 use exact::points::Place;
 use hall::reader::read_hall;
 use std::process::Abort;
@@ -16,9 +15,10 @@ const SQUARE: [u8; 70] = [
     0, 0, 0, 0, 0, 0, 0, 0, 0, 0, 0, 0, 0, 0, 0, 0, 1, 0, 0, 0, 0, 0, 0, 0,
 ];
 
+#[tactic(auto, unfolding(hall::specs::Outlines::bounded))]
 fn place(x: i8, y: i8, w: u8) -> Place
     requires { 0 < w }
-    ensures { Bounded (2 ^ 60 - 1) (place_of result) }
+    ensures { T (bounded (2 ^ 60 - 1) result) }
 {
     Place {
         x: x as i64,
@@ -28,15 +28,17 @@ fn place(x: i8, y: i8, w: u8) -> Place
 }
 
 fn decides(rt: &(impl Abort + AllocGlobal), p: Place, q: Place, clear: bool) -> Result<(), Fail>
-    requires { (Bounded (2 ^ 60 - 1) (place_of p)) × (Bounded (2 ^ 60 - 1) (place_of q)) }
+    requires { T (bounded (2 ^ 60 - 1) p) × T (bounded (2 ^ 60 - 1) q) }
 {
     let Ok(hall) = read_hall(rt.alloc(), &SQUARE) else {
         assert!(rt; false, "no hall");
         return Ok(());
     };
     let square = hall.load();
-    assert_eq!(rt; is_clear(&square, p, q), clear);
-    assert_eq!(rt; is_clear(&square, q, p), clear);
+    let there = Stretch { from: p, to: q };
+    let back = Stretch { from: q, to: p };
+    assert_eq!(rt; there.is_clear(&square), clear);
+    assert_eq!(rt; back.is_clear(&square), clear);
     Ok(())
 }
 

@@ -2,15 +2,11 @@
 ghost use Rattle.motion.specs.Ways.{Together, Fewer};
 
 // Ways can be put together.
-pub fn ways_join() -> u8
+pub fn ways_join()
     ensures { Together }
-{
-    0
-}
+{}
 
 // Fewer things never take a way away.
-pub fn fewer_things() -> u8
+pub fn fewer_things()
     ensures { Fewer }
-{
-    0
-}
+{}

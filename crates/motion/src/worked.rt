@@ -2,8 +2,6 @@
 ghost use Rattle.motion.specs.Worked.{WorkedHalls};
 
 // What is said of each of them holds.
-pub fn worked_halls() -> u8
+pub fn worked_halls()
     ensures { WorkedHalls }
-{
-    0
-}
+{}

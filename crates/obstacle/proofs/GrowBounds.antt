@@ -1,12 +1,13 @@
 -- The bounds of the corners that are read and of those that are met. Assumes nothing.
-use Rattle.std.proofs.Common.{◌≡◌, ℕ, ◌<◌, ◌≤◌, T, leb, List, length, get_or, sym, ap, ◌∙◌, subst, arith}
+use Rattle.std.proofs.Common.{◌≡◌, ℕ, ◌+◌, ◌<◌, ◌≤◌, T, List, length, get_or, sym, ap, ◌∙◌, subst, arith}
 use Rattle.std.proofs.lemmas.Bool.{and_parts, and_from}
 use Rattle.algebra.specs.Hall.{Corner, Shape, corner}
 use Rattle.algebra.specs.Near.{Near}
 use Rattle.exact.specs.declared.points.Corner as code
 use Rattle.exact.specs.Points.{corner_of, zero}
 use Rattle.exact.specs.Sides.{CornerNear}
-use Rattle.exact.proofs.Bounds.{wider}
+use Rattle.hall.specs.declared.shapes.Shape.{Shape as Shaped}
+use Rattle.hall.specs.Shapes.{shape_of}
 use Rattle.hall.specs.Outlines.{outline, within}
 use Rattle.hall.proofs.Drawings.{holds}
 use Rattle.hall.proofs.Faults.{all_at, all_from}
@@ -22,6 +23,13 @@ near_read m s t i h c e =
       y = subst (Near m) (sym (ap (λ (d : Corner). d.y) e)) (near_from_test m (corner s i).y p.1);
     }
 
+-- shapes of the code have as many corners as there is room for
+fits : {n : ℕ} (s : Shaped n) → length (shape_of s) ≤ n
+fits s = omega (arith, length_kept s.count s.corners (omega (arith, s.few)), s.few)
+
+pub both_fit : {m n g : ℕ} (load : Shaped m) (thing : Shaped n) → m + n ≤ g → length (shape_of load) + length (shape_of thing) ≤ g
+both_fit load thing h = omega (arith, fits load, fits thing)
+
 -- the first n of an array
 pub within_met : (m n : ℕ) (cs : List code.Corner) → n ≤ length cs → ((k : ℕ) → k < n → CornerNear m (get_or cs k zero)) → (s : Shape) → s ≡ outline n cs → T (within m s)
 unfolding within
@@ -33,6 +41,3 @@ within_met m n cs few near s is =
     and_from _ _
     (test_from_near m (corner s i).x (subst (Near m) (ap (λ (d : Corner). d.x) e) (near i k).x))
     (test_from_near m (corner s i).y (subst (Near m) (ap (λ (d : Corner). d.y) e) (near i k).y))))
-
-pub wider_corner : {m n : ℕ} {c : code.Corner} → CornerNear m c → T (leb m n) → CornerNear n c
-wider_corner h t = record { x = wider h.x t; y = wider h.y t }

@@ -1,66 +1,71 @@
--- The order of corners from below, and on a level from the left. Assumes nothing.
-use Rattle.std.proofs.Common.{◌≡◌, ℕ, ◌+◌, ◌<◌, ◌⊎◌, length, pos, ◌-ℤ◌, ◌≤ℤ◌, ◌<ℤ◌, sym, refl, subst, inl, inr, arith, below_more}
+-- The corners that are lowest and highest, by their heights. Assumes nothing.
+use Rattle.std.proofs.Common.{◌≡◌, ℕ, ◌+◌, ◌<◌, ◌⊎◌, true, false, Option, Some, None, IfSome, IsSomeAnd, ℤ, ◌<ℤ◌, Ordering, Less, Equal, Greater, refl, ap, ◌∙◌, subst, inl, inr, arith}
 use borrow.Author.Differences.{ints}
+use Rattle.std.specs.Iterator.Runs.{Run, AnyItem, AllItems}
+use Rattle.std.specs.Option.{option_map}
+use Rattle.std.specs.Ordering.{MatchOrdering, int_cmp, is_lt, is_gt, ordering_then}
+use Rattle.std.specs.declared.ops.Range.{Range}
+use Rattle.std.proofs.iter.Yields.{nat_range_steps}
+use Rattle.std.proofs.iter.runs.Sources.{range_runs}
+use Rattle.std.proofs.lemmas.Cmp.{int_ranked}
 use Rattle.algebra.specs.Hall.{Corner, Shape, corner}
+use Rattle.obstacle.specs.Growing.{HeightAt}
 use Rattle.obstacle.specs.Growth.{minus}
 use Rattle.obstacle.specs.Merging.{Up, Down}
-use Rattle.obstacle.proofs.Signs.{by_sign, ≥0_cases}
 use Rattle.obstacle.proofs.Strict.{corner_same}
 
--- a is b, or comes before it
-abbrev pub Until : Corner → Corner → Type 0
-Until a b = (a.y <ℤ b.y) ⊎ ((a.y ≡ b.y) × (a.x ≤ℤ b.x))
+-- by height, and on a level from the left
+abbrev by_height : ℤ × ℤ → ℤ × ℤ → Ordering
+by_height j k = ordering_then (int_cmp j.0 k.0) (int_cmp j.1 k.1)
 
-pub until_self : (a : Corner) → Until a a
-until_self a = inr (refl, omega (arith, ints))
+abbrev Ranked : Ordering → ℤ → ℤ → Type 0
+Ranked r x y = MatchOrdering r (x <ℤ y) (x ≡ y) (y <ℤ x)
 
-pub until_trans : (a b c : Corner) → Until a b → Until b c → Until a c
-until_trans a b c (inl h) (inl k) = inl (omega (arith, ints))
-until_trans a b c (inl h) (inr k) = inl (omega (arith, ints, k.0))
-until_trans a b c (inr h) (inl k) = inl (omega (arith, ints, h.0))
-until_trans a b c (inr h) (inr k) = inr (omega (arith, ints, h.0, k.0), omega (arith, ints, h.1, k.1))
+module _ (a b : Corner) where
+  above : (r q : Ordering) → Ranked r b.y a.y → Ranked q b.x a.x → is_lt (ordering_then r q) ≡ false → (b ≡ a) ⊎ Up (minus b a)
+  above Less q h k e = absurd cc
+  above Greater q h k e = inr (inl (omega (arith, ints)))
+  above Equal Less h k e = absurd cc
+  above Equal Equal h k e = inl (corner_same k h)
+  above Equal Greater h k e = inr (inr (omega (arith, ints), omega (arith, ints)))
 
-pub until_from_up : (a b : Corner) → Up (minus b a) → Until a b
-until_from_up a b (inl h) = inl (omega (arith, ints))
-until_from_up a b (inr h) = inr (omega (arith, ints, h.0), omega (arith, ints, h.1))
+  below : (r q : Ordering) → Ranked r b.y a.y → Ranked q b.x a.x → is_gt (ordering_then r q) ≡ false → (b ≡ a) ⊎ Down (minus b a)
+  below Greater q h k e = absurd cc
+  below Less q h k e = inr (inl (omega (arith, ints)))
+  below Equal Greater h k e = absurd cc
+  below Equal Equal h k e = inl (corner_same k h)
+  below Equal Less h k e = inr (inr (omega (arith, ints), omega (arith, ints)))
 
-pub until_from_not_up : (a b : Corner) → (Up (minus b a) → ⊥) → Until b a
-until_from_not_up a b n =
-    by_sign (b.y -ℤ a.y)
-    (λ h. inl (omega (arith, ints)))
-    (λ e. by_sign (b.x -ℤ a.x) (λ h. inr (omega (arith, ints), omega (arith, ints))) (λ h. inr (omega (arith, ints), omega (arith, ints))) (λ h. absurd (n (inr (e, h)))))
-    (λ h. absurd (n (inl h)))
+module _ (s : Shape) (i m : ℕ) (j k : ℤ × ℤ) (h : HeightAt s i j) (l : HeightAt s m k) where
+  pub not_lower : is_lt (by_height j k) ≡ false → (corner s i ≡ corner s m) ⊎ Up (minus (corner s i) (corner s m))
+  not_lower e =
+      let b = corner s i in
+      let a = corner s m in
+      above a b (int_cmp b.y a.y) (int_cmp b.x a.x) (int_ranked b.y a.y _ refl) (int_ranked b.x a.x _ refl) (rw (h.0, h.1, l.0, l.1) at e)
 
--- what comes after a is a or points up from it; what comes before a is a or points down
-pub up_from_until : (a b : Corner) → Until a b → (b ≡ a) ⊎ Up (minus b a)
-up_from_until a b (inl h) = inr (inl (omega (arith, ints)))
-up_from_until a b (inr h) =
-    let e : b.y -ℤ a.y ≡ pos 0 = omega (arith, ints, h.0) in
-    ≥0_cases (b.x -ℤ a.x) (omega (arith, ints, h.1)) (λ z. inl (corner_same (omega (arith, ints)) (omega (arith, ints)))) (λ l. inr (inr (e, l)))
+  pub not_higher : is_gt (by_height j k) ≡ false → (corner s i ≡ corner s m) ⊎ Down (minus (corner s i) (corner s m))
+  not_higher e =
+      let b = corner s i in
+      let a = corner s m in
+      below a b (int_cmp b.y a.y) (int_cmp b.x a.x) (int_ranked b.y a.y _ refl) (int_ranked b.x a.x _ refl) (rw (h.0, h.1, l.0, l.1) at e)
 
-pub down_from_until : (a b : Corner) → Until b a → (b ≡ a) ⊎ Down (minus b a)
-down_from_until a b (inl h) = inr (inl (omega (arith, ints)))
-down_from_until a b (inr h) =
-    let e : b.y -ℤ a.y ≡ pos 0 = omega (arith, ints, h.0) in
-    ≥0_cases (a.x -ℤ b.x) (omega (arith, ints, h.1)) (λ z. inl (corner_same (omega (arith, ints)) (omega (arith, ints)))) (λ l. inr (inr (e, omega (arith, ints))))
+-- ---- what was picked out of a range from 0, and what holds of each of its items
+at_place : (o : Option ℕ) (k : ℕ) → option_map (λ y. y) o ≡ Some k → (P : ℕ → Type 0) → IfSome o P → P k
+at_place None k e P h = absurd cc
+at_place (Some x) k e P h = let f : x ≡ k = cc in subst P f h
 
--- ---- the best corner of those below n, by a relation
-abbrev pub Best : (Corner → Corner → Type 0) → Shape → ℕ → ℕ → Type 0
-Best R s n b = (b < length s) × ((k : ℕ) → k < n → R (corner s b) (corner s k))
+some_place : (o : Option ℕ) (k m : ℕ) → option_map (λ y. y) o ≡ Some k → IsSomeAnd o (λ x. x ≡ m) → m ≡ k
+some_place None k m e h = elim h [ ]
+some_place (Some x) k m e h = cc
 
-module _ (R : Corner → Corner → Type 0) (self : (a : Corner) → R a a) (trans : (a b c : Corner) → R a b → R b c → R a c) (s : Shape) where
-  pub best_first : 0 < length s → Best R s 1 0
-  best_first h = (h, λ k l. let e : k ≡ 0 = omega arith in subst (λ (i : ℕ). R (corner s 0) (corner s i)) (sym e) (self (corner s 0)))
-
-  -- one more, which is better, or which isn't
-  pub best_moved : (i b : ℕ) → i < length s → Best R s i b → R (corner s i) (corner s b) → Best R s (i + 1) i
-  best_moved i b h f r = (h, below_more _ _ (λ k l. trans _ _ _ r (f.1 k l)) (self (corner s i)))
-
-  pub best_kept : (i b : ℕ) → Best R s i b → R (corner s b) (corner s i) → Best R s (i + 1) b
-  best_kept i b f r = (f.0, below_more _ _ f.1 r)
-
-abbrev pub Since : Corner → Corner → Type 0
-Since a b = Until b a
-
-pub since_trans : (a b c : Corner) → Since a b → Since b c → Since a c
-since_trans a b c h k = until_trans c b a k h
+pub picked_of_all : (p : Run nat_range_steps) (n m : ℕ) → p.from ≡ record { start = 0; end = n } → p.whole ≡ true → AnyItem p (λ x. x ≡ m) → (P : ℕ → Type 0) → AllItems p P →
+    (m < n) × ((k : ℕ) → k < n → P k)
+picked_of_all p n m from whole w P h =
+    let r = range_runs p p.seen in
+    let a : p.from.start ≡ 0 = ap (λ (s : Range ℕ). s.start) from in
+    let b : p.from.end ≡ n = ap (λ (s : Range ℕ). s.end) from in
+    let l : p.len ≡ n = omega (arith, r.1 whole) in
+    let at : (k : ℕ) → k < p.len → option_map (λ y. y) (p.at k) ≡ Some k = λ k i. let e : p.from.start + k ≡ k = omega arith in r.3 k i ∙ ap Some e in (
+      let e : m ≡ w.0 = some_place (p.at w.0) w.0 m (at w.0 w.1) w.2 in omega (arith, w.1),
+      λ k i. at_place (p.at k) k (at k (omega arith)) P (h k),
+    )

@@ -1,11 +1,11 @@
 -- The sides that a step of the walk compares point somewhere, and a step of the code is a step of the walk. Assumes nothing.
-use Rattle.std.proofs.Common.{◌≡◌, ℕ, suc, ◌+◌, ◌<◌, ◌⊎◌, length, ◌-ℤ◌, Ordering, Less, Equal, Greater, sym, ap, ◌∙◌, subst, ap₂, inl, inr, ⊎_elim, arith}
+use Rattle.std.proofs.Common.{◌≡◌, ℕ, suc, length, ◌-ℤ◌, Less, Equal, Greater, sym, ap, ◌∙◌, subst, ap₂, inl, inr, ⊎_elim, arith}
 use borrow.Author.Differences.{ints}
-use Rattle.std.specs.Ordering.{MatchOrdering}
-use Rattle.algebra.specs.Hall.{Corner, Shape, Sound, corner, next}
-use Rattle.obstacle.specs.declared.growing.Pair.{Pair}
-use Rattle.obstacle.specs.declared.growing.Walk.{Walk}
-use Rattle.obstacle.specs.Growing.{Points, On, Paired, Reached, NextSide, StepsOn}
+use Rattle.algebra.specs.Hall.{Corner, Shape, corner, next}
+use Rattle.hall.proofs.Kept.{sound_kept}
+use Rattle.obstacle.specs.declared.walks.Walk.{Walk}
+use Rattle.obstacle.specs.declared.walks.Walks.{Walks}
+use Rattle.obstacle.specs.Growing.{Points, round, Onto, Reached, NextSide, StepsOn}
 use Rattle.obstacle.specs.Growth.{minus, way}
 use Rattle.obstacle.specs.Merging.{Before, Alike, Step, of_thing, of_load, of_both, onward, thing_way, load_way}
 use Rattle.obstacle.proofs.Signs.{by_sign}
@@ -22,92 +22,60 @@ points_apart a b n =
     (λ e. by_sign (b.x -ℤ a.x) (λ h. inr (inr (e, h))) (λ z. absurd (n (corner_same (omega (arith, ints)) (omega (arith, ints))))) (λ h. inl (inr (e, h))))
     (λ h. inl (inl h))
 
-pub way_points : (s : Shape) → Sound s → (i : ℕ) → i < length s → Points (way s i)
-way_points s sound i h = points_apart _ _ (ends_apart s sound i h)
-
-pub back_points : (s : Shape) → Sound s → (i : ℕ) → i < length s → Points (back s i)
-back_points s sound i h = points_apart _ _ (λ e. ends_apart s sound i h (sym e))
-
--- ---- what the code has read
 pub minus_read : {d x y a b : Corner} → d ≡ minus x y → x ≡ a → y ≡ b → d ≡ minus a b
 minus_read e f g = e ∙ ap₂ minus f g
 
-next_read : {x : Corner} (s : Shape) (k n i : ℕ) → x ≡ corner s k → k ≡ next n i → n ≡ length s → x ≡ corner s (next (length s) i)
-next_read s k n i e f g = e ∙ ap (corner s) (f ∙ ap (λ (m : ℕ). next m i) g)
+-- the side where a walk stands, as the code has read it
+module _ {n : ℕ} (w : Walk n) {d : Corner} where
+  pub way_points : d ≡ way (round w) w.at → Points d
+  way_points e = subst Points (sym e) (points_apart _ _ (ends_apart (round w) (sound_kept (round w) w.shape.now.sound) w.at w.here))
 
-module _ (s : Shape) (n i k : ℕ) (count : n ≡ length s) (on : k ≡ next n i) where
-  pub way_read : {d x y : Corner} → d ≡ minus x y → x ≡ corner s k → y ≡ corner s i → d ≡ way s i
-  way_read e f g = minus_read e (next_read s k n i f on count) g
+  pub back_points : d ≡ back (round w) w.at → Points d
+  back_points e = subst Points (sym e) (points_apart _ _ (λ f. ends_apart (round w) (sound_kept (round w) w.shape.now.sound) w.at w.here (sym f)))
 
-  pub back_read : {d x y : Corner} → d ≡ minus x y → x ≡ corner s i → y ≡ corner s k → d ≡ back s i
-  back_read e f g = minus_read e f (next_read s k n i g on count)
-
--- ---- the next side, where both shapes have one left
 carry : (P : Corner → Corner → Type 0) {a b d e : Corner} → a ≡ d → b ≡ e → P a b → P d e
 carry P {a} {b} {d} {e} f g x = subst (λ (c : Corner). P c e) f (subst (P a) g x)
 
-pub next_of_both : (load thing : Shape) (p : Pair) (r : Ordering) {d e : Corner} → p.thing.gone < length thing → p.load.gone < length load →
-    d ≡ way thing p.thing.at → e ≡ back load p.load.at → MatchOrdering r (Before d e) (Alike d e) (Before e d) → NextSide load thing p r
-unfolding NextSide
-next_of_both load thing p Less h k f g x = (h, inr (carry Before f g x))
-next_of_both load thing p Equal h k f g x = (h, k, carry Alike f g x)
-next_of_both load thing p Greater h k f g x = (k, inr (carry Before g f x))
-
--- ---- a walk goes one side on
-pub record Onto (s : Shape) (w r : Walk) : Type 0 where
-  pub at : r.at ≡ next (length s) w.at
-  pub bound : r.at < length s
-  pub gone : r.gone ≡ suc w.gone
-
-pub onto : (s : Shape) (w r : Walk) (n : ℕ) → n ≡ length s → r.at ≡ next n w.at → r.at < n → r.gone ≡ w.gone + 1 → Onto s w r
-onto s w r n e f h g = record { at = f ∙ ap (λ (m : ℕ). next m w.at) e; bound = omega arith; gone = omega arith }
-
-module _ (s : Shape) (w r : Walk) (on : Onto s w r) where
-  still_on : w.gone < length s → On s r
-  still_on h = record { at = on.bound; gone = omega (arith, on.gone) }
-
-  reaches : (a : ℕ) → w.at ≡ onward (length s) a w.gone → r.at ≡ onward (length s) a r.gone
-  reaches a h = on.at ∙ ap (next (length s)) h ∙ ap (onward (length s) a) (sym on.gone)
-
 -- ---- a step of the code is a step of the walk
-module _ (load thing : Shape) (p : Pair) where
-  reread : (a b : ℕ) → Reached load thing a b p → (P : Corner → Corner → Type 0) → P (way thing p.thing.at) (back load p.load.at) →
+one_more : {n : ℕ} {w r : Walk n} → Onto w r → r.gone ≡ suc w.gone
+one_more on = omega (arith, on.gone)
+
+reaches : {n : ℕ} {w r : Walk n} {s : Shape} (a : ℕ) → Onto w r → round w ≡ s → w.at ≡ onward (length s) a w.gone → r.at ≡ onward (length s) a r.gone
+reaches {s = s} a on e h = on.at ∙ ap₂ next (ap length e) h ∙ ap (onward (length s) a) (sym (one_more on))
+
+module _ {m n : ℕ} (p : Walks m n) where
+  reread : {load thing : Shape} (a b : ℕ) → Reached load thing a b p → (P : Corner → Corner → Type 0) → P (way (round p.thing) p.thing.at) (back (round p.load) p.load.at) →
       P (thing_way load thing a b p.thing.gone) (load_way load thing a b p.load.gone)
-  reread a b h P x = carry P (ap (way thing) h.of_thing) (ap (back load) h.of_load) x
+  reread a b h P x = carry P (ap₂ way h.thing_is h.of_thing) (ap₂ back h.load_is h.of_load) x
 
-  abbrev Stepped : Pair → Type 0
-  Stepped q = Paired load thing q × StepsOn load thing p q
+  pub on_thing : {r : Walk n} → Onto p.thing r → NextSide p Less → StepsOn p (record { thing = r; load = p.load })
+  on_thing {r} on x =
+      record {
+        step = λ load thing a b h. (
+          subst (λ (i : ℕ). Step load thing a b p.thing.gone p.load.gone i p.load.gone) (sym (one_more on))
+              (of_thing (omega (arith, x.0, ap length h.thing_is)) (⊎_elim (λ e. inl (e ∙ ap length h.load_is)) (λ y. inr (reread a b h Before y)) x.1)),
+          record { load_is = h.load_is; thing_is = on.shape ∙ h.thing_is; of_thing = reaches a on h.thing_is h.of_thing; of_load = h.of_load },
+        );
+        fewer = omega (arith, ap length on.shape, on.gone, x.0);
+      }
 
-  pub on_thing : On load p.load → (r : Walk) → Onto thing p.thing r →
-      (p.thing.gone < length thing) × ((p.load.gone ≡ length load) ⊎ Before (way thing p.thing.at) (back load p.load.at)) → Stepped (record { thing = r; load = p.load })
-  unfolding StepsOn
-  on_thing h r on n = (
-    record { of_load = h; of_thing = still_on thing p.thing r on n.0 },
-    λ a b k. (
-      subst (λ (i : ℕ). Step load thing a b p.thing.gone p.load.gone i p.load.gone) (sym on.gone) (of_thing n.0 (⊎_elim inl (λ x. inr (reread a b k Before x)) n.1)),
-      record { of_thing = reaches thing p.thing r on a k.of_thing; of_load = k.of_load },
-    ),
-  )
+  pub on_load : {r : Walk m} → Onto p.load r → NextSide p Greater → StepsOn p (record { thing = p.thing; load = r })
+  on_load {r} on x =
+      record {
+        step = λ load thing a b h. (
+          subst (λ (j : ℕ). Step load thing a b p.thing.gone p.load.gone p.thing.gone j) (sym (one_more on))
+              (of_load (omega (arith, x.0, ap length h.load_is)) (⊎_elim (λ e. inl (e ∙ ap length h.thing_is)) (λ y. inr (reread a b h (λ d e. Before e d) y)) x.1)),
+          record { load_is = on.shape ∙ h.load_is; thing_is = h.thing_is; of_thing = h.of_thing; of_load = reaches b on h.load_is h.of_load },
+        );
+        fewer = omega (arith, ap length on.shape, on.gone, x.0);
+      }
 
-  pub on_load : On thing p.thing → (r : Walk) → Onto load p.load r →
-      (p.load.gone < length load) × ((p.thing.gone ≡ length thing) ⊎ Before (back load p.load.at) (way thing p.thing.at)) → Stepped (record { thing = p.thing; load = r })
-  unfolding StepsOn
-  on_load h r on n = (
-    record { of_load = still_on load p.load r on n.0; of_thing = h },
-    λ a b k. (
-      subst (λ (j : ℕ). Step load thing a b p.thing.gone p.load.gone p.thing.gone j) (sym on.gone) (of_load n.0 (⊎_elim inl (λ x. inr (reread a b k (λ d e. Before e d) x)) n.1)),
-      record { of_thing = k.of_thing; of_load = reaches load p.load r on b k.of_load },
-    ),
-  )
-
-  pub on_both : (r q : Walk) → Onto thing p.thing r → Onto load p.load q →
-      (p.thing.gone < length thing) × (p.load.gone < length load) × Alike (way thing p.thing.at) (back load p.load.at) → Stepped (record { thing = r; load = q })
-  unfolding StepsOn
-  on_both r q on along n = (
-    record { of_load = still_on load p.load q along n.1; of_thing = still_on thing p.thing r on n.0 },
-    λ a b k. (
-      subst (λ (i : ℕ). Step load thing a b p.thing.gone p.load.gone i q.gone) (sym on.gone)
-          (subst (λ (j : ℕ). Step load thing a b p.thing.gone p.load.gone (suc p.thing.gone) j) (sym along.gone) (of_both n.0 n.1 (reread a b k Alike n.2))),
-      record { of_thing = reaches thing p.thing r on a k.of_thing; of_load = reaches load p.load q along b k.of_load },
-    ),
-  )
+  pub on_both : {r : Walk n} {q : Walk m} → Onto p.thing r → Onto p.load q → NextSide p Equal → StepsOn p (record { thing = r; load = q })
+  on_both {r} {q} on along x =
+      record {
+        step = λ load thing a b h. (
+          rw (one_more on, one_more along) (of_both {i = p.thing.gone} {j = p.load.gone} (omega (arith, x.0, ap length h.thing_is)) (omega (arith, x.1, ap length h.load_is)) (reread a b h Alike x.2)),
+          record { load_is = along.shape ∙ h.load_is; thing_is = on.shape ∙ h.thing_is; of_thing = reaches a on h.thing_is h.of_thing; of_load = reaches b along h.load_is h.of_load },
+        );
+        fewer = omega (arith, ap length on.shape, on.gone, x.0, ap length along.shape, along.gone, x.1);
+      }

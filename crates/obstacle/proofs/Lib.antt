@@ -20,7 +20,7 @@ pub mod ExistenceRun
 pub mod Existence
 pub mod GrowEnds
 pub mod GrowTurns
+pub mod GrowBounds
 pub mod GrowSteps
 pub mod GrowWalk
-pub mod GrowBounds
 pub mod GrowShape

@@ -5,3 +5,4 @@ pub mod Merging
 pub mod Freedom
 pub mod Grows
 pub mod Growing
+pub mod Sites

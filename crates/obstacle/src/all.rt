@@ -19,11 +19,7 @@ fn grow_each(
     requires things { T (all_within 1000 things.now) }
     ensures { IfOk result (λ v. GrownTo (shape_of load.now) (map shape_of things.now) (map shape_of v.items) (length things.now)) }
 {
-    let mut grown = Vec::new(heap);
-    for thing in things {
-        grown.push(grow(load, thing))?;
-    }
-    Ok(grown)
+    things.iter().map(|thing| grow(load, thing)).collect(heap)
 }
 
 // The obstacles of a hall, in the order of its things.

@@ -12,40 +12,16 @@ use hall::halls::Hall;
 use hall::shapes::Shape;
 
 // A place is free exactly if it is in the hall and inside no obstacle.
-pub fn free_exactly() -> u8
+pub fn free_exactly()
     ensures { FreeExactly }
-{
-    0
-}
+{}
 
 // Whether a place is inside a shape; its edge is not.
 pub fn is_inside<const N: usize>(shape: &Shape<N>, p: Place) -> bool
     requires { PlaceNear (2 ^ 45) (2 ^ 34) p }
     ensures { Decides result (Inside (shape_of shape.now) (place_of p)) }
 {
-    for i in 0..shape.len() {
-        if !is_left(shape, i, p) {
-            return false;
-        }
-    }
-    true
-}
-
-// Whether a place is to the left of side i.
-fn is_left<const N: usize>(shape: &Shape<N>, i: usize, p: Place) -> bool
-    requires place { PlaceNear (2 ^ 45) (2 ^ 34) p }
-    requires side { i < length (shape_of shape.now) }
-    ensures { Decides result (pos 0 <ℤ edge (shape_of shape.now) i (place_of p)) }
-{
-    edge_value(shape, i, p) > 0
-}
-
-fn edge_value<const N: usize>(shape: &Shape<N>, i: usize, p: Place) -> i64
-    requires place { PlaceNear (2 ^ 45) (2 ^ 34) p }
-    requires side { i < length (shape_of shape.now) }
-    ensures { result ≡ edge (shape_of shape.now) i (place_of p) }
-{
-    shape.side(i).value(p)
+    shape.sides().all(|side| side.value(p) > 0)
 }
 
 // Whether z / w is from 0 to room.
@@ -63,23 +39,9 @@ pub fn is_within(hall: &Hall, p: Place) -> bool
 }
 
 // Whether a place is inside none of the obstacles.
-fn is_apart(obstacles: &[Shape<16>], p: Place) -> bool
+pub(crate) fn is_apart(obstacles: &[Shape<16>], p: Place) -> bool
     requires { PlaceNear (2 ^ 45) (2 ^ 34) p }
     ensures { Decides result (Apart (map shape_of obstacles.now) (place_of p)) }
 {
-    for obstacle in obstacles {
-        if is_inside(obstacle, p) {
-            return false;
-        }
-    }
-    true
-}
-
-// Whether the load can stand at a place.
-pub fn is_free(hall: &Hall, obstacles: &[Shape<16>], p: Place) -> bool
-    requires obstacles { Obstacles (task_of hall.now).hall (map shape_of obstacles.now) }
-    requires place { PlaceNear (2 ^ 45) (2 ^ 34) p }
-    ensures { Decides result (Free (task_of hall.now).hall (place_of p)) }
-{
-    is_within(hall, p) && is_apart(obstacles, p)
+    obstacles.iter().all(|obstacle| !is_inside(obstacle, p))
 }

@@ -1,46 +1,26 @@
 // A thing grown by a load: the sides of both are walked round, merged by their directions.
-ghost use Rattle.std.specs.Prelude.{◌≡◌, ℕ, ◌+◌, ◌<◌, ◌≤◌, T, length, Decides, slice_index_or};
+ghost use Rattle.std.specs.Prelude.{◌≡◌, ◌+◌, ◌<◌, ◌≤◌, T, length, Decides, MatchOption};
+ghost use Rattle.std.specs.Iterator.{at_most};
 ghost use Rattle.std.specs.Ordering.{MatchOrdering};
-ghost use Rattle.algebra.specs.Hall.{next};
-ghost use Rattle.exact.specs.Points.{corner_of, zero};
-ghost use Rattle.exact.specs.Sides.{CornerNear, DirectionNear};
+ghost use Rattle.algebra.specs.Hall.{corner};
+ghost use Rattle.exact.specs.Points.{corner_of};
+ghost use Rattle.exact.specs.Sides.{CornerNear};
 ghost use Rattle.hall.specs.Shapes.{shape_of, drawn_within};
-ghost use Rattle.obstacle.specs.Growing.{vector_of, Points, Paired, Left, NextSide, StepsOn, Met};
+ghost use Rattle.obstacle.specs.Growing.{HeightAt, vector_of, Points, round, Ahead, Onto, Begun, MetAt, IsRound, NextSide, StepsOn, MeetsNext, left};
 ghost use Rattle.obstacle.specs.Growth.{minus, Grown};
 ghost use Rattle.obstacle.specs.Merging.{Up, Before, Alike, Lowest, Highest};
 
-use exact::points::{Corner, Side};
-use exact::sides::{Direction, cross};
+use crate::walks::{Walk, Walks};
+use exact::points::{Corner, Direction, Side};
+use exact::sides::cross;
 use hall::rounds::after;
 use hall::shapes::Shape;
 use std::cmp::Ordering;
 
-// A walk round a shape: the corner reached, and how many sides were gone.
-#[derive(Clone, Copy)]
-struct Walk {
-    at: usize,
-    gone: usize,
-}
-
-// A walk round the thing, and one round the load.
-#[derive(Clone, Copy)]
-struct Pair {
-    thing: Walk,
-    load: Walk,
-}
-
-// The corners of a grown shape, and how many they are.
-#[derive(Clone, Copy)]
-struct Outline<const G: usize> {
-    corners: [Corner; G],
-    count: u8,
-}
-
 fn way(from: Corner, to: Corner) -> Direction
     requires from { CornerNear 2047 from }
     requires to { CornerNear 2047 to }
-    ensures value { vector_of result ≡ minus (corner_of to) (corner_of from) }
-    ensures bound { DirectionNear 4094 result }
+    ensures { vector_of result ≡ minus (corner_of to) (corner_of from) }
 {
     Side { from, to }.direction()
 }
@@ -49,108 +29,54 @@ fn way(from: Corner, to: Corner) -> Direction
 fn is_up(d: Direction) -> bool
     ensures { Decides result (Up (vector_of d)) }
 {
-    0 < d.dy || 0 <= d.dy && 0 < d.dx
+    (0, 0) < (d.dy, d.dx)
 }
 
-// Which of two directions comes first, turning left from the one to the right.
+// Which of two directions comes first, turning left from the one to the right: one that is up before one that isn't.
 fn order(d: Direction, e: Direction) -> Ordering
-    requires first { (DirectionNear 4094 d) × (Points (vector_of d)) }
-    requires second { (DirectionNear 4094 e) × (Points (vector_of e)) }
+    requires first { Points (vector_of d) }
+    requires second { Points (vector_of e) }
     ensures { MatchOrdering result (Before (vector_of d) (vector_of e)) (Alike (vector_of d) (vector_of e)) (Before (vector_of e) (vector_of d)) }
 {
-    let (first, second) = (is_up(d), is_up(e));
-    if first == second {
-        0.cmp(&cross(d, e))
-    } else if first {
-        Ordering::Less
-    } else {
-        Ordering::Greater
-    }
+    is_up(e).cmp(&is_up(d)).then_with(|| 0.cmp(&cross(d, e)))
 }
 
-// The lowest corner, and of those the leftmost.
+// How high corner i is, and on a level how far to the right.
+fn height<const N: usize>(s: &Shape<N>, i: usize) -> (i64, i64)
+    requires { i < length (shape_of s.now) }
+    ensures { HeightAt (shape_of s.now) i result }
+{
+    let c = s.corner(i);
+    (c.y, c.x)
+}
+
+// The lowest corner, and of those the leftmost. This and the next are two methods of the library over one key. Each says its closure's clauses: tried
+// without, the call of `height` isn't proved.
 fn lowest<const N: usize>(s: &Shape<N>) -> usize
     ensures { Lowest (shape_of s.now) result }
 {
-    let mut best = 0;
-    for i in 1..s.len() {
-        if is_up(way(s.corner(i), s.corner(best))) {
-            best = i;
-        }
-    }
-    best
+    (0..s.len())
+        .min_by_key(
+            |i|
+                requires { i.now < length (shape_of s.now) }
+                ensures { HeightAt (shape_of s.entry.now) i.now result }
+            { height(s, *i) },
+        )
+        .unwrap()
 }
 
 // The highest corner, and of those the rightmost.
 fn highest<const N: usize>(s: &Shape<N>) -> usize
     ensures { Highest (shape_of s.now) result }
 {
-    let mut best = 0;
-    for i in 1..s.len() {
-        if is_up(way(s.corner(best), s.corner(i))) {
-            best = i;
-        }
-    }
-    best
-}
-
-impl Walk {
-    // One side on, round a shape of n corners.
-    fn on(self, n: usize) -> Walk
-        requires { (self.at < n) × (self.gone < n) }
-        ensures at { result.at ≡ next n self.at }
-        ensures bound { result.at < n }
-        ensures gone { result.gone ≡ self.gone + 1 }
-    {
-        Walk {
-            at: after(n, self.at),
-            gone: self.gone + 1,
-        }
-    }
-}
-
-// Which side is next, of the thing or of the load turned round: of both where they point the same way. Where one has none left it is the other's.
-fn next_side<const M: usize, const N: usize>(load: &Shape<M>, thing: &Shape<N>, p: Pair) -> Ordering
-    requires paired { Paired (shape_of load.now) (shape_of thing.now) p }
-    requires left { Left (shape_of load.now) (shape_of thing.now) p }
-    ensures { NextSide (shape_of load.now) (shape_of thing.now) p result }
-{
-    let (n, m) = (thing.len(), load.len());
-    let (v, u) = (p.thing.at, p.load.at);
-    if p.load.gone == m {
-        Ordering::Less
-    } else if p.thing.gone == n {
-        Ordering::Greater
-    } else {
-        order(
-            way(thing.corner(v), thing.corner(after(n, v))),
-            way(load.corner(after(m, u)), load.corner(u)),
+    (0..s.len())
+        .max_by_key(
+            |i|
+                requires { i.now < length (shape_of s.now) }
+                ensures { HeightAt (shape_of s.entry.now) i.now result }
+            { height(s, *i) },
         )
-    }
-}
-
-// The pair one step on.
-fn step<const M: usize, const N: usize>(load: &Shape<M>, thing: &Shape<N>, p: Pair) -> Pair
-    requires paired { Paired (shape_of load.now) (shape_of thing.now) p }
-    requires left { Left (shape_of load.now) (shape_of thing.now) p }
-    ensures paired { Paired (shape_of load.now) (shape_of thing.now) result }
-    ensures on { StepsOn (shape_of load.now) (shape_of thing.now) p result }
-{
-    let (n, m) = (thing.len(), load.len());
-    match next_side(load, thing, p) {
-        Ordering::Less => Pair {
-            thing: p.thing.on(n),
-            load: p.load,
-        },
-        Ordering::Greater => Pair {
-            thing: p.thing,
-            load: p.load.on(m),
-        },
-        Ordering::Equal => Pair {
-            thing: p.thing.on(n),
-            load: p.load.on(m),
-        },
-    }
+        .unwrap()
 }
 
 // One corner less another.
@@ -166,37 +92,115 @@ fn less(a: Corner, b: Corner) -> Corner
     }
 }
 
-// The corners met on the walk: at each pair the thing's corner less the load's.
-fn merge<const M: usize, const N: usize, const G: usize>(
-    load: &Shape<M>,
-    thing: &Shape<N>,
-) -> Outline<G>
-    requires room { M + N ≤ G }
-    requires few { G < 256 }
-    requires near { (T (drawn_within 1000 load.now)) × (T (drawn_within 1000 thing.now)) }
-    ensures met { Met (shape_of load.now) (shape_of thing.now) result.corners result.count }
-    ensures few { (result.count ≤ G) × (length result.corners ≡ G) }
-    ensures near { (k : ℕ) → k < result.count → CornerNear 2000 (slice_index_or result.corners k zero) }
-{
-    let (n, m) = (thing.len(), load.len());
-    let mut corners = [Corner { x: 0, y: 0 }; G];
-    let mut count = 0;
-    let mut p = Pair {
-        thing: Walk {
-            at: lowest(thing),
-            gone: 0,
-        },
-        load: Walk {
-            at: highest(load),
-            gone: 0,
-        },
-    };
-    while p.thing.gone < n || p.load.gone < m {
-        corners[count as usize] = less(thing.corner(p.thing.at), load.corner(p.load.at));
-        count += 1;
-        p = step(load, thing, p);
+impl<'a, const N: usize> Walk<'a, N> {
+    // The corner reached.
+    fn corner(&self) -> Corner
+        ensures value { corner_of result ≡ corner (round self.now) self.now.at }
+        ensures bound { CornerNear 1000 result }
+    {
+        self.shape.corner(self.at)
     }
-    Outline { corners, count }
+
+    // The corner after it, if a side is left.
+    fn ahead(&self) -> Option<Corner>
+        ensures { MatchOption result (self.now.gone ≡ length (round self.now)) (Ahead self.now) }
+    {
+        if self.gone == self.shape.len() {
+            return None;
+        }
+        Some(self.shape.corner(after(self.shape.len(), self.at)))
+    }
+
+    // One side on.
+    fn on(self) -> Walk<'a, N>
+        requires { self.gone < length (round self) }
+        ensures { Onto self.entry result }
+    {
+        Walk {
+            shape: self.shape,
+            at: after(self.shape.len(), self.at),
+            gone: self.gone + 1,
+        }
+    }
+}
+
+impl<'a, const M: usize, const N: usize> Walks<'a, M, N> {
+    // From the lowest corner of the thing and the highest of the load.
+    fn new(load: &'a Shape<M>, thing: &'a Shape<N>) -> Walks<'a, M, N>
+        requires few { (M < 256) × (N < 256) }
+        requires near { (T (drawn_within 1000 load.now)) × (T (drawn_within 1000 thing.now)) }
+        ensures { Begun (shape_of load.now) (shape_of thing.now) result }
+    {
+        Walks {
+            thing: Walk {
+                shape: thing,
+                at: lowest(thing),
+                gone: 0,
+            },
+            load: Walk {
+                shape: load,
+                at: highest(load),
+                gone: 0,
+            },
+        }
+    }
+
+    // The thing's corner less the load's.
+    fn corner(&self) -> Corner
+        ensures { MetAt self.now result }
+    {
+        less(self.thing.corner(), self.load.corner())
+    }
+
+    // Which side is next, of the thing or of the load turned round: of both where they point the same way. Where one has none left it is the other's.
+    fn next_side(&self) -> Option<Ordering>
+        ensures { MatchOption result (IsRound self.now) (NextSide self.now) }
+    {
+        match (self.thing.ahead(), self.load.ahead()) {
+            (None, None) => None,
+            (Some(_), None) => Some(Ordering::Less),
+            (None, Some(_)) => Some(Ordering::Greater),
+            (Some(to), Some(from)) => Some(order(
+                way(self.thing.corner(), to),
+                way(from, self.load.corner()),
+            )),
+        }
+    }
+
+    // The walks one step on.
+    fn step(&self) -> Option<Walks<'a, M, N>>
+        ensures { MatchOption result (IsRound self.now) (StepsOn self.now) }
+    {
+        match self.next_side()? {
+            Ordering::Less => Some(Walks {
+                thing: self.thing.on(),
+                load: self.load,
+            }),
+            Ordering::Greater => Some(Walks {
+                thing: self.thing,
+                load: self.load.on(),
+            }),
+            Ordering::Equal => Some(Walks {
+                thing: self.thing.on(),
+                load: self.load.on(),
+            }),
+        }
+    }
+}
+
+// The corners met on the way.
+impl<'a, const M: usize, const N: usize> Iterator for Walks<'a, M, N> {
+    type Item = Corner;
+
+    ghost next_gives = { MeetsNext };
+
+    ghost remaining = { λ s. at_most (left s) };
+
+    fn next(&mut self) -> Option<Corner> {
+        let corner = self.corner();
+        *self = self.step()?;
+        Some(corner)
+    }
 }
 
 // The thing grown by the load: the load's point is inside it exactly where the load meets the thing.
@@ -211,6 +215,12 @@ pub fn grow<const M: usize, const N: usize, const G: usize>(
     ensures few { length (shape_of result) ≤ length (shape_of load.now) + length (shape_of thing.now) }
     ensures near { T (drawn_within 2000 result) }
 {
-    let met: Outline<G> = merge(load, thing);
-    Shape::new(met.corners, met.count)
+    // An array and a count, as a shape has them: shapes are values, with no heap.
+    let mut corners = [Corner { x: 0, y: 0 }; G];
+    let mut count = 0;
+    for corner in Walks::new(load, thing) {
+        corners[count as usize] = corner;
+        count += 1;
+    }
+    Shape::new(corners, count)
 }

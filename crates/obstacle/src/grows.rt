@@ -2,8 +2,6 @@
 ghost use Rattle.obstacle.specs.Grows.{Grows};
 
 // Where the load meets a thing is the inside of one sound shape.
-pub fn grows() -> u8
+pub fn grows()
     ensures { Grows }
-{
-    0
-}
+{}

@@ -6,5 +6,7 @@ pub mod convex;
 pub mod freedom;
 pub mod growing;
 pub mod grows;
+pub mod sites;
 #[cfg(test)]
 mod tests;
+mod walks;

@@ -1,10 +1,14 @@
 // Cases with numbers.
-ghost use Rattle.std.specs.Prelude.{T};
-ghost use Rattle.hall.specs.Shapes.{drawn_within};
+#![tactic(auto, unfolding(hall::specs::Format::sound, hall::specs::Outlines::within, algebra::specs::Hall::edge, algebra::specs::Hall::side))]
+
+ghost use Rattle.std.specs.Prelude.{◌<◌, T, length};
+ghost use Rattle.hall.specs.Shapes.{shape_of, drawn_within};
 
 use crate::growing::grow;
 use exact::points::Corner;
 use hall::shapes::Shape;
+
+// Four functions, and not one over corners: that one would have to require what the check computes of each.
 
 // A load of two by two around its own point.
 fn square() -> Shape<4>
@@ -62,17 +66,9 @@ fn splinter() -> Shape<3>
     )
 }
 
-// Whether a shape has these corners, in order.
+// Whether a shape has these corners.
 fn has<const N: usize>(s: &Shape<N>, corners: &[Corner]) -> bool {
-    if s.len() != corners.len() {
-        return false;
-    }
-    for (i, c) in corners.iter().enumerate() {
-        if s.corner(i).x != c.x || s.corner(i).y != c.y {
-            return false;
-        }
-    }
-    true
+    s.corners() == corners
 }
 
 #[test]

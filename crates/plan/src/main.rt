@@ -4,13 +4,11 @@
 use std::env;
 use std::io::Read;
 use std::process::ExitCode;
-use text::console::{conclude, read_file};
+use text::console::{conclude, read_file, status};
 use text::replies::plan_reply;
 
 fn input(rt: &HostRuntime) -> anyhow::Result<Vec<u8>> {
-    let mut words = env::args(rt)?;
-    let _ = words.next();
-    match words.next() {
+    match env::args(rt)?.nth(1) {
         Some(name) => read_file(rt, name.as_str()),
         None => {
             let mut bytes = Vec::new(rt.alloc());
@@ -25,10 +23,6 @@ fn run(rt: &HostRuntime) -> anyhow::Result<()> {
     conclude(rt, plan_reply(rt.alloc(), bytes.as_slice()))
 }
 
-// What is wrong was told where it was met, so an error is only a status here.
 fn main(rt: HostRuntime) -> ExitCode {
-    match run(&rt) {
-        Ok(()) => ExitCode::SUCCESS,
-        Err(_) => ExitCode::FAILURE,
-    }
+    status(run(&rt))
 }

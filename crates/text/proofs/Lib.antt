@@ -1,3 +1,2 @@
 pub mod Euclid
 pub mod Terms
-pub mod Texts

@@ -9,11 +9,12 @@ use Rattle.std.proofs.lemmas.Bool.{cases_order, cond_both, cond-true, eq-eqb, eq
 use Rattle.algebra.proofs.Ring.{negℤ-*ℤ, *ℤ-assoc}
 use Rattle.algebra.proofs.Polynomial.{by_ring, forms}
 use Rattle.algebra.proofs.Order.{untimes-≡, pos>0}
-use Rattle.text.specs.Lowest.{Greatest, Lowest, Reduced, common, shared, top, bottom}
+use Rattle.std.specs.Int.{IsGcd}
+use Rattle.text.specs.Lowest.{Lowest, Reduced, common, shared, top, bottom}
 use Rattle.text.proofs.Euclid.{greatest, divides_other}
 
 -- the search from k down finds the greatest common divisor
-pub common_is : (k a b g : ℕ) → 0 < g → g ≤ k → Greatest a b g → common k a b ≡ g
+pub common_is : (k a b g : ℕ) → 0 < g → g ≤ k → IsGcd a b g → common k a b ≡ g
 unfolding common
 common_is zero a b g some h e = omega arith
 common_is (suc k) a b g some h e =
@@ -21,12 +22,12 @@ common_is (suc k) a b g some h e =
     let divides : (n : ℕ) → eqb (n % suc k) 0 ≡ true → suc k ∣ n = λ n t. dvd_of_mod-eq-zero (suc k) (eqb-true (n % suc k) 0 t) in
     elim (cases_order g (suc k)) [
       | inl s ↦
-          let at : Greatest a b (suc k) = subst (Greatest a b) s e in
-          cond-true _ _ _ (and_from _ _ (both a at.left) (both b at.right)) ∙ sym s
+          let at : IsGcd a b (suc k) = subst (IsGcd a b) s e in
+          cond-true _ _ _ (and_from _ _ (both a at.0) (both b at.1)) ∙ sym s
       | inr (inl l) ↦
           cond_both (eqb (a % suc k) 0 && eqb (b % suc k) 0) (suc k) (common k a b) (λ r. r ≡ g)
           (λ t. let p = and_parts (eqb (a % suc k) 0) (eqb (b % suc k) 0) t in
-          let m : suc k ≤ g = le_of_dvd some (e.most (suc k) (divides a p.0) (divides b p.1)) in
+          let m : suc k ≤ g = le_of_dvd some (e.2 (suc k) (divides a p.0) (divides b p.1)) in
           omega arith)
           (λ f. common_is k a b g some (omega arith) e)
       | inr (inr l) ↦ omega arith
@@ -49,31 +50,31 @@ quot_times (pos n) g h = ap pos (div-mul_cancel g h)
 quot_times (negsuc n) g h = negℤ-*ℤ (pos (suc n / g)) (pos g) ∙ ap (λ (k : ℕ). neg_ℤ (pos k)) (div-mul_cancel g h)
 
 -- over the greatest common divisor the terms are the lowest
-pub lowest_over : (x : ℤ) (w g : ℕ) → 0 < w → Greatest (nat_abs x) w g → Lowest x w (quot_z x (pos g)) (w / g)
+pub lowest_over : (x : ℤ) (w g : ℕ) → 0 < w → IsGcd (nat_abs x) w g → Lowest x w (quot_z x (pos g)) (w / g)
 lowest_over x w g some e =
-    let part : w / g * g ≡ w = div-mul_cancel g e.right in
-    let z : 0 < g = pos_of_dvd_of_pos e.right some in
+    let part : w / g * g ≡ w = div-mul_cancel g e.1 in
+    let z : 0 < g = pos_of_dvd_of_pos e.1 some in
     record {
-      above = pos_of_dvd_of_pos (subst (λ (n : ℕ). w / g ∣ n) (mul-div_cancel' g e.right) (dvd-mul_left (w / g) g)) some;
-      same = ap (λ (z : ℤ). z *ℤ pos (w / g)) (sym (quot_times x g e.left)) ∙ *ℤ-assoc (quot_z x (pos g)) (pos g) (pos (w / g)) ∙ ap (λ (k : ℕ). quot_z x (pos g) *ℤ pos k) (mul-div_cancel' g e.right);
+      above = pos_of_dvd_of_pos (subst (λ (n : ℕ). w / g ∣ n) (mul-div_cancel' g e.1) (dvd-mul_left (w / g) g)) some;
+      same = ap (λ (z : ℤ). z *ℤ pos (w / g)) (sym (quot_times x g e.0)) ∙ *ℤ-assoc (quot_z x (pos g)) (pos g) (pos (w / g)) ∙ ap (λ (k : ℕ). quot_z x (pos g) *ℤ pos k) (mul-div_cancel' g e.1);
       least = λ k two p q.
-          let l : k * g ∣ nat_abs x = subst (λ (n : ℕ). k * g ∣ n) (div-mul_cancel g e.left) (mul-dvd-mul_right k (subst (λ (n : ℕ). k ∣ n) (nat_abs_quot x g) p) g) in
+          let l : k * g ∣ nat_abs x = subst (λ (n : ℕ). k * g ∣ n) (div-mul_cancel g e.0) (mul-dvd-mul_right k (subst (λ (n : ℕ). k ∣ n) (nat_abs_quot x g) p) g) in
           let r : k * g ∣ w = subst (λ (n : ℕ). k * g ∣ n) part (mul-dvd-mul_right k q g) in
-          let m : k * g ≤ g = le_of_dvd z (e.most (k * g) l r) in
+          let m : k * g ≤ g = le_of_dvd z (e.2 (k * g) l r) in
           let t : 2 * g ≤ k * g = mul-le-mul_right g two in
           omega arith;
     }
 
 -- that divisor is the one of the definitions
-pub shared_is : (x : ℤ) (w g : ℕ) → 0 < w → Greatest (nat_abs x) w g → shared x w ≡ g
-shared_is x w g some e = common_is w (nat_abs x) w g (pos_of_dvd_of_pos e.right some) (le_of_dvd some e.right) e
+pub shared_is : (x : ℤ) (w g : ℕ) → 0 < w → IsGcd (nat_abs x) w g → shared x w ≡ g
+shared_is x w g some e = common_is w (nat_abs x) w g (pos_of_dvd_of_pos e.1 some) (le_of_dvd some e.1) e
 
 pub lowest_terms : (x : ℤ) (w : ℕ) → 0 < w → Lowest x w (top x w) (bottom x w)
 unfolding top bottom
 lowest_terms x w some =
     let g = greatest (nat_abs x) w in
     let at = shared_is x w g.0 some g.1 in
-    lowest_over x w (shared x w) some (subst (Greatest (nat_abs x) w) (sym at) g.1)
+    lowest_over x w (shared x w) some (subst (IsGcd (nat_abs x) w) (sym at) g.1)
 
 last_two : (a b c : ℤ) → (a *ℤ b) *ℤ c ≡ (a *ℤ c) *ℤ b
 last_two a b c = by_ring (a ∷ b ∷ c ∷ []) (search forms depth 60 fits 99999) refl

@@ -2,13 +2,7 @@
 use Rattle.std.specs.Prelude.{◌≡◌, ℕ, zero, suc, ◌/◌, ◌%◌, ◌<◌, ◌≤◌, cond, ◌&&◌, ℤ, pos, ◌*ℤ◌, ◌==◌, int_div, unsigned_abs}
 use Rattle.std.specs.Int.{◌∣◌}
 
--- g is the greatest common divisor of a and b: it divides both (k ∣ n says that k times some number is n), and what divides both divides g
-pub record Greatest (a b g : ℕ) : Type 0 where
-  pub left : g ∣ a
-  pub right : g ∣ b
-  pub most : (k : ℕ) → k ∣ a → k ∣ b → k ∣ g
-
--- n / d is x / w in lowest terms: the same number, over a denominator above 0, and no number from 2 on divides both n and d
+-- n / d is x / w in lowest terms (k ∣ n says that k times some number is n): the same number, over a denominator above 0, and no number from 2 on divides both n and d
 pub record Lowest (x : ℤ) (w : ℕ) (n : ℤ) (d : ℕ) : Type 0 where
   pub above : 0 < d
   pub same : x *ℤ pos d ≡ n *ℤ pos w

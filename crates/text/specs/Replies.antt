@@ -8,12 +8,9 @@ use Rattle.text.specs.declared.answers.Answer.{Answer}
 use Rattle.text.specs.declared.answers.Answer.TheVariants as answer
 
 -- `plan`: bytes with a fault are refused for it; a hall that is taken is left undecided, unless memory is wanting
-abbrev pub Planned : List ℕ → Answer → Type 0
-Planned bs (answer.Refused e) = (task_fault bs ≡ Some e) ⊎ ((e ≡ Memory) × (task_fault bs ≡ None))
-Planned bs answer.Undecided = task_fault bs ≡ None
-Planned bs (answer.Way ps) = ⊥
-Planned bs answer.None = ⊥
-Planned bs answer.Accepted = ⊥
+abbrev pub Planned : List ℕ → Result Answer Refusal → Type 0
+Planned bs (Err e) = (task_fault bs ≡ Some e) ⊎ ((e ≡ Memory) × (task_fault bs ≡ None))
+Planned bs (Ok a) = (a ≡ answer.Undecided) × (task_fault bs ≡ None)
 
 -- what the checker says of the task and the way that the bytes are
 abbrev pub Verdict : List ℕ → List ℕ → Result (Unit {0}) Refusal → Type 0
@@ -27,9 +24,6 @@ pub data Refuses (hs ws : List ℕ) (e : Refusal) : Type 0 where
   by_memory : task_fault hs ≡ None → e ≡ Memory → Refuses hs ws e
 
 -- `check_way`: accepted is what can be driven
-abbrev pub Checked : List ℕ → List ℕ → Answer → Type 0
-Checked hs ws (answer.Refused e) = Refuses hs ws e
-Checked hs ws answer.Accepted = (task_fault hs ≡ None) × (way_fault ws ≡ None) × Verdict hs ws (Ok tt)
-Checked hs ws answer.Undecided = ⊥
-Checked hs ws (answer.Way ps) = ⊥
-Checked hs ws answer.None = ⊥
+abbrev pub Checked : List ℕ → List ℕ → Result Answer Refusal → Type 0
+Checked hs ws (Err e) = Refuses hs ws e
+Checked hs ws (Ok a) = (a ≡ answer.Accepted) × (task_fault hs ≡ None) × (way_fault ws ≡ None) × Verdict hs ws (Ok tt)

@@ -1,8 +1,13 @@
-// What the programs do with files and streams. No contract can speak of these.
+// What the programs do with files and streams. No contract can speak of those, only of the status.
+ghost use Rattle.std.specs.Prelude.{◌≡◌, OnOk, OnErr};
+ghost use Rattle.std.specs.Process.{exit_status};
+
 use crate::answers::Answer;
 use crate::rendering::render;
 use anyhow::anyhow;
+use hall::refusals::Refusal;
 use std::fs;
+use std::process::ExitCode;
 
 // The bytes of a file. Where it can't be read, standard error says which and why.
 pub fn read_file(rt: &HostRuntime, name: &str) -> anyhow::Result<Vec<u8>> {
@@ -15,12 +20,21 @@ pub fn read_file(rt: &HostRuntime, name: &str) -> anyhow::Result<Vec<u8>> {
     }
 }
 
-// Prints an answer; a refusal ends the program with an error.
-pub fn conclude(rt: &HostRuntime, answer: Answer) -> anyhow::Result<()> {
-    let text = render(rt.alloc(), answer)?;
+// Prints a reply; a refusal ends the program with an error.
+pub fn conclude(rt: &HostRuntime, reply: Result<Answer, Refusal>) -> anyhow::Result<()> {
+    let text = render(rt.alloc(), reply)?;
     print!(rt; "{text}")?;
-    match answer {
-        Answer::Refused(_) => Err(anyhow!("refused")),
-        _ => Ok(()),
+    reply?;
+    Ok(())
+}
+
+// The status of a program that ends so. What is wrong was told where it was met, so an error is only a status here.
+pub fn status(outcome: anyhow::Result<()>) -> ExitCode
+    ensures ok { OnOk outcome (exit_status result ≡ 0) }
+    ensures err { OnErr outcome (exit_status result ≡ 1) }
+{
+    match outcome {
+        Ok(()) => ExitCode::SUCCESS,
+        Err(_) => ExitCode::FAILURE,
     }
 }

@@ -5,7 +5,6 @@ pub mod answers;
 pub mod console;
 pub mod fractions;
 pub mod plans;
-mod refused;
 pub mod rendering;
 pub mod replies;
 #[cfg(test)]

@@ -6,8 +6,12 @@ use hall::refusals::{Lent, Refusal};
 use std::process::Abort;
 use std::test::Fail;
 
-fn shows(rt: &(impl Abort + AllocGlobal), answer: Answer, expected: &str) -> Result<(), Fail> {
-    let text = render(rt.alloc(), answer)?;
+fn shows(
+    rt: &(impl Abort + AllocGlobal),
+    reply: Result<Answer, Refusal>,
+    expected: &str,
+) -> Result<(), Fail> {
+    let text = render(rt.alloc(), reply)?;
     assert_eq!(rt; text.as_str(), expected);
     Ok(())
 }
@@ -21,7 +25,7 @@ fn a_way(rt: HostRuntime) -> Result<(), Fail> {
     ];
     shows(
         &rt,
-        Answer::Way(&places),
+        Ok(Answer::Way(&places)),
         "way\n8/1 5/1\n2/3 -2/3\n0/1 1/1\n",
     )
 }
@@ -47,39 +51,26 @@ fn the_farthest_numbers(rt: HostRuntime) -> Result<(), Fail> {
     ];
     shows(
         &rt,
-        Answer::Way(&places),
+        Ok(Answer::Way(&places)),
         "way\n-9223372036854775808/1 9223372036854775807/1\n-1/1 0/1\n-1/3689348814741910323 1/6148914691236517205\n",
     )
 }
 
-// The check covers an answer that lends nothing only where a function returns it.
-fn word<'a>(decided: Option<bool>) -> Answer<'a> {
-    match decided {
-        Some(true) => Answer::Accepted,
-        Some(false) => Answer::None,
-        None => Answer::Undecided,
-    }
-}
-
-fn refusal<'a>(refusal: Refusal) -> Answer<'a> {
-    Answer::Refused(refusal)
-}
-
 #[test]
 fn words(rt: HostRuntime) -> Result<(), Fail> {
-    shows(&rt, word(Some(false)), "none\n")?;
-    shows(&rt, word(Some(true)), "accepted\n")?;
-    shows(&rt, word(None), "undecided\n")
+    shows(&rt, Ok(Answer::None), "none\n")?;
+    shows(&rt, Ok(Answer::Accepted), "accepted\n")?;
+    shows(&rt, Ok(Answer::Undecided), "undecided\n")
 }
 
 #[test]
 fn refusals(rt: HostRuntime) -> Result<(), Fail> {
-    shows(&rt, refusal(Refusal::Bend(9)), "refused 4 at 9\n")?;
-    shows(&rt, refusal(Refusal::Slice(Lent::Way)), "refused 5 at 2\n")?;
+    shows(&rt, Err(Refusal::Bend(9)), "refused 4 at 9\n")?;
+    shows(&rt, Err(Refusal::Slice(Lent::Way)), "refused 5 at 2\n")?;
     let collision = Refusal::Collision {
         stretch: 3,
         thing: 2,
     };
-    shows(&rt, refusal(collision), "refused 7 at 3 2\n")?;
-    shows(&rt, refusal(Refusal::Memory), "refused 8 at 0\n")
+    shows(&rt, Err(collision), "refused 7 at 3 2\n")?;
+    shows(&rt, Err(Refusal::Memory), "refused 8 at 0\n")
 }

@@ -4,72 +4,71 @@ use exact::points::{Corner, Place};
 use hall::shapes::Shape;
 use obstacle::freedom::is_inside;
 
-fn doubled(c: Corner, dx: i64, dy: i64) -> Corner {
-    Corner {
-        x: c.x.wrapping_mul(2).wrapping_add(dx),
-        y: c.y.wrapping_mul(2).wrapping_add(dy),
+// A shape at twice its size, moved.
+#[derive(Clone, Copy)]
+struct Moved<'a> {
+    shape: &'a Shape<8>,
+    dx: i64,
+    dy: i64,
+}
+
+impl Moved<'_> {
+    // Where a corner of the shape comes to be.
+    fn corner(&self, c: Corner) -> Corner {
+        Corner {
+            x: c.x.wrapping_mul(2).wrapping_add(self.dx),
+            y: c.y.wrapping_mul(2).wrapping_add(self.dy),
+        }
+    }
+
+    // Whether no corner is to the left of the line from a to b.
+    fn has_none_left(&self, a: Corner, b: Corner) -> bool {
+        self.shape
+            .corners()
+            .iter()
+            .all(|c| turn(a, b, self.corner(*c)) <= 0)
+    }
+
+    // Whether a side has no corner of the other shape to its left.
+    fn has_parting_side(&self, other: &Moved) -> bool {
+        self.shape.sides().any(|side| other.has_none_left(
+            self.corner(side.from),
+            self.corner(side.to),
+        ))
+    }
+
+    // Whether the two have a place inside in common.
+    fn meets(&self, other: &Moved) -> bool {
+        !self.has_parting_side(other) && !other.has_parting_side(self)
     }
 }
 
+// Above 0 if c is to the left of the line from a to b. Not exact's `turn`: a test should share no code with what it tests.
 fn turn(a: Corner, b: Corner, c: Corner) -> i64 {
     let left = b.x.wrapping_sub(a.x).wrapping_mul(c.y.wrapping_sub(a.y));
     let right = b.y.wrapping_sub(a.y).wrapping_mul(c.x.wrapping_sub(a.x));
     left.wrapping_sub(right)
 }
 
-// Whether no corner of a shape that is moved is to the left of the line from a to b.
-fn none_left(a: Corner, b: Corner, shape: &Shape<8>, dx: i64, dy: i64) -> bool {
-    for k in 0..shape.len() {
-        if turn(a, b, doubled(shape.corner(k), dx, dy)) > 0 {
-            return false;
-        }
-    }
-    true
-}
-
-// Whether a side of one shape has no corner of the other to its left; each is moved by so much.
-fn has_parting_side(one: &Shape<8>, dx: i64, dy: i64, other: &Shape<8>, ox: i64, oy: i64) -> bool {
-    for i in 0..one.len() {
-        let side = one.side(i);
-        if none_left(
-            doubled(side.from, dx, dy),
-            doubled(side.to, dx, dy),
-            other,
-            ox,
-            oy,
-        ) {
-            return true;
-        }
-    }
-    false
-}
-
-// Whether a load at x / 2, y / 2 meets a thing.
-fn meets(load: &Shape<8>, thing: &Shape<8>, x: i64, y: i64) -> bool {
-    !has_parting_side(load, x, y, thing, 0, 0) && !has_parting_side(thing, 0, 0, load, x, y)
-}
-
-// At how many of the places of a row the obstacle says the same.
-fn same_in_row(load: &Shape<8>, thing: &Shape<8>, obstacle: &Shape<16>, y: i16) -> usize {
-    let mut same = 0usize;
-    for x in 0u8..=100 {
-        let p = Place {
-            x: x as i64 - 20,
-            y: y as i64,
-            w: 2,
-        };
-        if is_inside(obstacle, p) == meets(load, thing, p.x, p.y) {
-            same = same.saturating_add(1);
-        }
-    }
-    same
-}
-
-// At how many of 101 by 61 places the obstacle says the same.
+// At how many of 101 by 61 places, whose coordinates are halves, the obstacle says the same.
 pub fn same_places(load: &Shape<8>, thing: &Shape<8>, obstacle: &Shape<16>) -> usize {
-    let mut same = 0usize;
-    for y in -20i16..=40 {
-        same = same.saturating_add(same_in_row(load, thing, obstacle, y));
-    }
-    same
+    let thing = Moved {
+        shape: thing,
+        dx: 0,
+        dy: 0,
+    };
+    let is_same = |x: i64, y: i64| {
+        let load = Moved {
+            shape: load,
+            dx: x,
+            dy: y,
+        };
+        is_inside(obstacle, Place { x, y, w: 2 }) == load.meets(&thing)
+    };
+    let in_row = |y: i16| {
+        (-20i16..=80)
+            .filter(|x| is_same(i64::from(*x), i64::from(y)))
+            .count()
+    };
+    (-20i16..=40).map(in_row).fold(0, usize::saturating_add)
 }

@@ -36,21 +36,22 @@ fn way_line(rt: &HostRuntime, hall: &str, way: &str) -> anyhow::Result<()> {
     Ok(())
 }
 
+// Whether a hall's bytes that are cut short are refused at their length.
+fn is_refused_at_end(rt: &HostRuntime, cut: &[u8]) -> anyhow::Result<bool> {
+    let reply = render(rt.alloc(), plan_reply(rt.alloc(), cut))?;
+    let length = cut.len();
+    let expected = format!(in rt.alloc(); "refused 1 at {length}\n")?;
+    Ok(reply.as_str() == expected.as_str())
+}
+
 // How many of the cuts of a hall's bytes are refused at their length.
 fn cut_lines(rt: &HostRuntime, name: &str) -> anyhow::Result<()> {
     let mut bytes = bytes_of(rt, name, "hall")?;
     let whole = bytes.len();
-    let mut right = 0usize;
-    for length in 0..whole {
-        let reply = render(
-            rt.alloc(),
-            plan_reply(rt.alloc(), &bytes.as_slice()[0..length]),
-        )?;
-        let expected = format!(in rt.alloc(); "refused 1 at {length}\n")?;
-        if reply.as_str() == expected.as_str() {
-            right = right.saturating_add(1);
-        }
-    }
+    let right = (0..whole).try_fold(0usize, |right, length| -> anyhow::Result<usize> {
+        let refused = is_refused_at_end(rt, &bytes.as_slice()[0..length])?;
+        Ok(right.saturating_add(usize::from(refused)))
+    })?;
     println!(rt; "{name}: {right} of {whole} cuts are refused at their length")?;
     bytes.push(0)?;
     let reply = render(rt.alloc(), plan_reply(rt.alloc(), bytes.as_slice()))?;
@@ -61,16 +62,15 @@ fn cut_lines(rt: &HostRuntime, name: &str) -> anyhow::Result<()> {
 // At how many places each obstacle of a hall says the same as the direct test.
 fn obstacle_line(rt: &HostRuntime, name: &str) -> anyhow::Result<()> {
     let bytes = bytes_of(rt, name, "hall")?;
-    let Ok(hall) = read_hall(rt.alloc(), bytes.as_slice()) else {
-        return Err(anyhow!("the hall is refused"));
-    };
+    let hall = read_hall(rt.alloc(), bytes.as_slice()).map_err(|_| anyhow!("the hall is refused"))?;
     let load = hall.load();
     let things = hall.things(rt.alloc())?;
     let obstacles = grow_all(rt.alloc(), &hall)?;
-    let mut same = 0usize;
-    for (thing, obstacle) in things.iter().zip(obstacles.iter()) {
-        same = same.saturating_add(same_places(&load, thing, obstacle));
-    }
+    let same = things
+        .iter()
+        .zip(obstacles.iter())
+        .map(|(thing, obstacle)| same_places(&load, thing, obstacle))
+        .fold(0, usize::saturating_add);
     let all = things.len().saturating_mul(101 * 61);
     println!(rt; "{name}: obstacles are right at {same} of {all} places")?;
     Ok(())

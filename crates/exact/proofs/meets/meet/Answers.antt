@@ -22,8 +22,8 @@ divided-requires c =
     let f = c.against-f in
     let i : c.unsigned_abs.result ≡ nat_abs f.result.from = c.unsigned_abs.ensures.value ∙ ap nat_abs (kept w64 f.result.from f.ensures.near_from tt) in
     let j : c.unsigned_abs-2.result ≡ nat_abs f.result.to = c.unsigned_abs-2.ensures.value ∙ ap nat_abs (kept w64 f.result.to f.ensures.near_to tt) in
-    let n = ends_parts c.args.s c.args.t f.result f.ensures c.requires.first c.requires.second (λ h. c.if-f.false (ap (of_z w64) h)) (not_above c.one_side.result _ c.one_side.ensures c.if-one_side.false) in
-    record { corners = c.requires.first; some = omega (arith, n.0); parts = omega (arith, n.1) }
+    let n = ends_parts c.args.s c.args.t f.result f.ensures (λ h. c.if-f.false (ap (of_z w64) h)) (not_above c.one_side.result _ c.one_side.ensures c.if-one_side.false) in
+    record { some = omega (arith, n.0); parts = omega (arith, n.1) }
 
 pub returns : goal.returns
 returns c =

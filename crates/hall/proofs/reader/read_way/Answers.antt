@@ -23,7 +23,7 @@ invariant_of-result c =
     let bs = c.args.bytes.now in
     let v = c.in_ok-places.places in
     let w = (way_writes_back bs (bytes_from_fits bs c.type_inv.bytes) c.in_ok-check_way.ensures).1 in
-    let r = c.in_ok-places.ensures ∙ ap (λ (n : ℕ). places_at n bs 2) c.u16_at.ensures in
+    let r = c.in_ok-places.ensures ∙ ap (λ (n : ℕ). places_at n bs 2) c.u16.ensures in
     record {
       few = omega (arith, w.few, ap length r, length-map v.items place_of);
       near = holds (all_bounded_from (2 ^ 60 - 1) v.items (subst EachBounded (sym r) w.places));
@@ -35,5 +35,5 @@ returns c =
     let bs = c.args.bytes.now in
     let e = c.in_ok-check_way.ensures in
     let w = way_writes_back bs (bytes_from_fits bs c.type_inv.bytes) e in
-    let r = c.in_ok-places.ensures ∙ ap (λ (n : ℕ). places_at n bs 2) c.u16_at.ensures in
+    let r = c.in_ok-places.ensures ∙ ap (λ (n : ℕ). places_at n bs 2) c.u16.ensures in
     record { faultless = e; read = r; written = sym w.0 ∙ ap way_bytes (sym r); good = subst Fitting (sym r) w.1 }

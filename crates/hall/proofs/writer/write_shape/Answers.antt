@@ -1,25 +1,26 @@
-use Rattle.std.proofs.Common.{◌≡◌, ◌<◌, length, vec_items, arith, rules}
+use Rattle.std.proofs.Common.{◌++◌, vec_items, ap, ◌∙◌, rules}
+use Rattle.std.proofs.lemmas.List.{take_all}
+use Rattle.std.specs.List.{flat_map}
 use Rattle.exact.specs.Points.{corner_of, zero}
 use Rattle.hall.specs.Format.{corner_bytes}
-use Rattle.hall.proofs.Written.{near_corner, joined_step, shape_written}
+use Rattle.hall.specs.Outlines.{outline_of}
+use Rattle.hall.proofs.Kept.{near_each}
+use Rattle.hall.proofs.Written.{joined_step, shape_written}
 use Rattle.hall.proofs.writer.write_shape.Goals as goal
 
 pub write_corner-requires : goal.write_corner-requires
-write_corner-requires c =
-    let s = c.args.shape.now in
-    near_corner 2047 s.count c.loop-k.k s.corners (search rules) s.near c.loop-k-test.true
+write_corner-requires c = near_each 2047 c.corners-corner-items.result.now c.corners-corner-items.ensures.near c.loop-corner.corner-index c.loop-corner-test.true
 
-pub loop-k-preserved : goal.loop-k-preserved
-loop-k-preserved c =
-    let h : c.loop-k.k < length c.args.shape.now.corners = search rules in (
-      omega arith,
-      joined_step corner_bytes corner_of c.args.shape.now.corners c.loop-k.k zero (vec_items c.push.new.self) _ _
-          h c.loop-k.invariant.1 c.in_ok-write_corner.ensures,
-    )
+pub loop-corner-preserved : goal.loop-corner-preserved
+loop-corner-preserved c =
+    joined_step corner_bytes corner_of c.corners-corner-items.result.now c.loop-corner.corner-index zero (vec_items c.push.new.self) _ _
+    c.loop-corner-test.true c.loop-corner.invariant c.in_ok-write_corner.ensures
 
 pub returns : goal.returns
 returns c =
     let s = c.args.shape.now in
-    let e : c.loop-k.k ≡ s.count = omega arith in
-    shape_written s.corners s.count c.loop-k.k (vec_items c.args.out.now) {between = vec_items c.push.new.self} e c.loop-k.invariant.0
-    c.in_ok-push.ensures.items c.loop-k.invariant.1
+    let cs = c.corners-corner-items in
+    let all = take_all c.loop-corner.corner-index cs.result.now c.loop-corner-test.false in
+    shape_written s.corners s.count (vec_items c.args.out.now) {between = vec_items c.push.new.self} (search rules)
+    c.in_ok-push.ensures.items
+    (c.loop-corner.invariant ∙ ap (λ l. vec_items c.push.new.self ++ flat_map corner_bytes (outline_of l)) all ∙ ap (λ l. vec_items c.push.new.self ++ flat_map corner_bytes l) cs.ensures.value)

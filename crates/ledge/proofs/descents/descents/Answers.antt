@@ -1,21 +1,12 @@
-use Rattle.std.proofs.Common.{◌≡◌, ℕ, map, length, subst, arith}
-use Rattle.std.proofs.lemmas.List.{length-map}
-use Rattle.hall.specs.Halls.{task_of}
-use Rattle.hall.specs.Shapes.{shape_of}
-use Rattle.ledge.proofs.Filling.{Filled, filled_none, filled_more, filled_all}
+use Rattle.std.proofs.Common.{◌≤◌, length, None, rules, Option, ℕ, arith}
+use Rattle.ledge.specs.declared.descents.Descent.{Descent}
+use Rattle.ledge.specs.Descents.{DescentAt}
+use Rattle.ledge.proofs.Filling.{made_at, all_descents}
 use Rattle.ledge.proofs.descents.descents.Goals as goal
-
-pub loop-k-init : goal.loop-k-init
-loop-k-init c = filled_none (task_of c.args.hall.now).hall (map shape_of c.args.obstacles.now)
-
-pub loop-k-preserved : goal.loop-k-preserved
-loop-k-preserved c =
-    filled_more (task_of c.args.hall.now).hall (map shape_of c.args.obstacles.now) c.loop-k.k c.loop-k.all c.loop-k.invariant (omega arith)
-    c.descent_of.result c.descent_of-in-loop-k.result c.descent_of.ensures c.descent_of-in-loop-k.ensures
 
 pub returns : goal.returns
 returns c =
-    let os = c.args.obstacles.now in
-    let h = (task_of c.args.hall.now).hall in
-    let n : c.loop-k.k ≡ length (map shape_of os) = omega (arith, length-map os shape_of) in
-    filled_all h (map shape_of os) c.loop-k.all (subst (λ (k : ℕ). Filled h (map shape_of os) k c.loop-k.all) n c.loop-k.invariant)
+    let s = c.args.site.now in
+    let r = c.from_fn.ensures.items in
+    let at = made_at _ _ (λ (i : ℕ) (d : Option Descent). DescentAt s.task.hall s.obstacles i d × (length s.obstacles ≤ 40)) (λ i d q k. (search rules, (search rules, search rules))) c.from_fn.result 0 80 r.each in
+    all_descents s.task.hall s.obstacles c.from_fn.result (at 0 None (omega arith) (omega arith)).1 r.long (λ i l. (at i None (omega arith) (omega arith)).0)

@@ -1,18 +1,24 @@
-use Rattle.std.proofs.Common.{sym, ap, ◌∙◌, subst, below_more}
-use Rattle.std.proofs.lemmas.Bool.{both_ways}
-use Rattle.algebra.specs.Hall.{Place, at}
+use Rattle.std.proofs.Common.{◌≤◌, [], ◌∷◌, length, inl, ap, rules, arith}
+use borrow.Author.Tests.{tests}
+use Rattle.std.proofs.lemmas.Iterator.{IsFirst-from_position}
+use Rattle.std.proofs.lemmas.Iterator.Consumers.{YieldsList-from_first}
 use Rattle.hall.specs.Shapes.{shape_of}
-use Rattle.ledge.specs.Descents.{Outermost}
+use Rattle.hall.specs.Sides.{CornerPair, pair_of, sides_of, sides_left}
+use Rattle.ledge.specs.Descents.{TipPair}
+use Rattle.hall.proofs.Walks.{length_sides}
+use Rattle.ledge.proofs.Numbering.{few_sides}
+use Rattle.ledge.proofs.Tips.{tip_side_found}
 use Rattle.ledge.proofs.descents.tip_side.Goals as goal
-use Rattle.ledge.proofs.descents.tip_side.Goals.{else-is_upper-via-then-is_upper+else-is_outermost, else-is_upper-via-else-is_upper}
 
-pub loop-i-preserved : goal.loop-i-preserved
-loop-i-preserved c =
-    below_more _ _ c.loop-i.invariant
-    (λ t.
-    elim c.else-is_upper.branch [
-      | else-is_upper-via-then-is_upper+else-is_outermost w ↦
-          both_ways w.is_outermost.result w.if-is_outermost.false
-          (w.is_outermost.ensures.1 (subst (λ (q : Place). Outermost (shape_of c.args.shape.now) c.args.hand q) (sym (w.place.ensures ∙ ap at w.end_of.ensures.value)) t.outermost))
-      | else-is_upper-via-else-is_upper w ↦ both_ways c.is_upper.result w.if-is_upper.false (c.is_upper.ensures.1 t.upper)
-    ])
+pub position-requires-clause-fits : goal.position-requires-clause-fits
+position-requires-clause-fits c =
+    let s = c.args.shape.now in
+    let few : length (shape_of s) ≤ 16 = few_sides (s ∷ []) 0 (omega arith) in
+    inl (omega (arith, ap length c.sides.ensures, length_sides (shape_of s) (length (shape_of s)) 0, few))
+
+pub returns : goal.returns
+returns c =
+    let g = shape_of c.args.shape.now in
+    let hand = c.args.hand in
+    tip_side_found g hand c.position.result
+    (IsFirst-from_position c.position.new.self _ c.position.result (TipPair g hand) (λ (a : CornerPair). TipPair g hand a → ⊥) c.position.ensures.ran (YieldsList-from_first pair_of sides_left (sides_of g) c.sides.ensures) (λ x q k. search (rules, tests)) (λ x q k. search (rules, tests)))

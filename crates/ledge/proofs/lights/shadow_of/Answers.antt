@@ -1,20 +1,30 @@
-use Rattle.std.proofs.Common.{◌-◌, ◌<◌, length, map, arith}
+use Rattle.std.proofs.Common.{◌≡◌, ◌∙◌, map, w64, rules}
+use Rattle.exact.proofs.Bounds.{kept}
 use Rattle.exact.specs.Points.{corner_of}
 use Rattle.hall.specs.Halls.{task_of}
 use Rattle.hall.specs.Shapes.{shape_of}
-use Rattle.obstacle.proofs.Freely.{shape_item}
-use Rattle.ledge.proofs.Lighting.{wall_bars, thing_bars}
+use Rattle.ledge.specs.Lights.{wall_number}
+use Rattle.ledge.proofs.Lighting.{past_near, wall_bars}
 use Rattle.ledge.proofs.lights.shadow_of.Goals as goal
 
-pub returns-then-j-lt4 : goal.returns-then-j-lt4
-returns-then-j-lt4 c =
-    wall_bars (task_of c.args.hall.now).hall (map shape_of c.args.obstacles.now) (corner_of c.args.surface.from) (corner_of c.args.surface.to)
-    c.args.j c.beyond.result c.if-j-lt4.true c.beyond.ensures c.cut.result c.cut.ensures
+pub invariant_of-cut : goal.invariant_of-cut
+invariant_of-cut c =
+    let h = (task_of c.args.hall.now).hall in
+    let s = c.args.surface in
+    let w = c.in-Wall.wall in
+    let m = c.beyond.ensures in
+    let n = c.beyond-in-Wall.ensures in
+    let i = kept w64 c.beyond.result m.bound tt in
+    let j = kept w64 c.beyond-in-Wall.result n.bound tt in
+    record { gap = rw (i, j, m.value, n.value) (past_near h w s.from s.to s.starts s.ends) }
 
-pub returns-else-j-lt4 : goal.returns-else-j-lt4
-returns-else-j-lt4 c =
-    let os = c.args.obstacles.now in
-    let x = c.index-obstacles-j.result in
-    let l : c.args.j - 4 < length os = omega arith in
-    thing_bars (task_of c.args.hall.now).hall (map shape_of os) (corner_of c.args.surface.from) (corner_of c.args.surface.to)
-    c.args.j (shape_of x) c.if-j-lt4.false (shape_item os (c.args.j - 4) x l c.index-obstacles-j.is) c.cast.result c.cast.ensures
+pub returns-in-Wall-clause-bar : goal.returns-in-Wall-clause-bar
+returns-in-Wall-clause-bar c l =
+    let h = (task_of c.args.hall.now).hall in
+    let s = c.args.surface in
+    let w = c.in-Wall.wall in
+    let m = c.beyond.ensures in
+    let n = c.beyond-in-Wall.ensures in
+    let is : c.args.j ≡ wall_number w = search rules in
+    wall_bars h (map shape_of c.args.obstacles.now) (corner_of s.from) (corner_of s.to) w c.whole.result _ c.cut.result c.cut.ensures c.whole.ensures.from c.whole.ensures.to
+    (kept w64 _ m.bound tt ∙ m.value) (kept w64 _ n.bound tt ∙ n.value) c.args.j is

@@ -1,20 +1,13 @@
-use Rattle.std.proofs.Common.{false, Some, refl, rules}
-use Rattle.std.proofs.lemmas.Bool.{both_ways}
-use Rattle.ledge.specs.Runs.{Lit}
-use Rattle.ledge.proofs.Running.{item_is, shaded_here}
+use Rattle.std.proofs.Common.{rules}
+use Rattle.std.proofs.lemmas.Iterator.{cases_from_all, YieldsList-from_slice}
+use Rattle.ledge.specs.Runs.{Shaded}
+use Rattle.ledge.proofs.Running.{lit_from, shaded_if, unshaded}
 use Rattle.ledge.proofs.runs.is_lit.Goals as goal
 
-pub returns-then-holds : goal.returns-then-holds
-unfolding Lit
-returns-then-holds c =
-    let ss = c.args.shadows.now in
-    let i = c.loop-shadow.shadow-index in
-    let x = c.in-Some.shadow in
-    let e = item_is ss i c.shadow-item.result (Some x) c.loop-shadow-test.true c.shadow-item.is c.in-Some.is in (
-      λ f. absurd (both_ways false refl f),
-      λ l. absurd (l i c.loop-shadow-test.true (shaded_here ss i x c.args.spot.t c.args.spot.u e (c.holds.ensures.0 c.if-holds.true))),
-    )
-
 pub returns : goal.returns
-unfolding Lit
-returns c = search rules
+returns c =
+    let t = c.args.spot.t in
+    let u = c.args.spot.u in
+    lit_from c.all.result c.args.shadows.now t u
+    (cases_from_all _ _ _ (λ o. Shaded o t u → ⊥) (λ o. Shaded o t u) c.all.ensures.ran (YieldsList-from_slice c.args.shadows.now cc)
+    (λ x q k. (search rules, unshaded x.now t u (λ y e. search rules))) (λ x q k. shaded_if x.now t u (λ e. search rules) (λ y e. search rules)))

@@ -1,35 +1,17 @@
-use Rattle.std.proofs.Common.{◌-◌, ◌/◌, ◌%◌, ◌<◌, length, sym, subst, arith}
-use Rattle.std.proofs.lemmas.List.{length-map}
-use Rattle.std.proofs.lemmas.Bool.Decides.{not_from_Decides}
-use Rattle.algebra.specs.Hall.{Shape}
-use Rattle.hall.specs.Shapes.{shape_of}
-use Rattle.ledge.specs.Sides.{Upper}
+use Rattle.std.proofs.Common.{◌-◌, ◌/◌, arith}
 use Rattle.obstacle.proofs.Freely.{shape_item}
-use Rattle.ledge.proofs.Numbering.{unnumbered}
+use Rattle.ledge.proofs.Numbering.{unnumbered, numbered}
 use Rattle.ledge.proofs.surfaces.surface_at.Goals as goal
-use Rattle.ledge.proofs.surfaces.surface_at.Goals.{else-obstacle-obstacles-via-then-obstacle-obstacles+else-is_upper, else-obstacle-obstacles-via-else-obstacle-obstacles}
 
-pub returns-then-is_upper : goal.returns-then-is_upper
-returns-then-is_upper c =
+pub returns-in_err-shape : goal.returns-in_err-shape
+returns-in_err-shape c =
+    let l = c.in_err-shape.ensures.lookup.3 in
+    rw c.from_residual.ensures (unnumbered c.args.obstacles.now c.args.number c.if-number-eq0.false (λ h u. absurd (omega (arith, l, h))))
+
+pub returns : goal.returns
+returns c =
     let os = c.args.obstacles.now in
     let n = c.args.number in
-    let x = c.index-obstacles-obstacle.result in
-    let h : (n - 1) / 16 < length os = c.if-obstacle-obstacles.true in
-    let e = shape_item os ((n - 1) / 16) x h c.index-obstacles-obstacle.is in
-    record {
-      stands = (omega (arith, length-map os shape_of), subst (λ (g : Shape). Upper g ((n - 1) % 16)) (sym e) (c.is_upper.ensures.0 c.if-is_upper.true));
-      is = omega arith;
-    }
-
-pub returns-else-obstacle-obstacles : goal.returns-else-obstacle-obstacles
-returns-else-obstacle-obstacles c =
-    let os = c.args.obstacles.now in
-    let n = c.args.number in
-    unnumbered os n c.if-number-eq0.false
-    (elim c.else-obstacle-obstacles.branch [
-      | else-obstacle-obstacles-via-then-obstacle-obstacles+else-is_upper w ↦
-          λ h u.
-          let e = shape_item os ((n - 1) / 16) w.index-obstacles-obstacle.result h w.index-obstacles-obstacle.is in
-          not_from_Decides w.is_upper.result w.is_upper.ensures w.if-is_upper.false (subst (λ (g : Shape). Upper g ((n - 1) % 16)) e u)
-      | else-obstacle-obstacles-via-else-obstacle-obstacles w ↦ λ h u. absurd (omega (arith, w.if-obstacle-obstacles.false))
-    ])
+    let x = c.in_ok-shape.shape.now in
+    let l = c.in_ok-shape.ensures.lookup in
+    rw c.then_some.ensures (numbered os n c.if-number-eq0.false x l.3.0 (shape_item os ((n - 1) / 16) x l.3.0 l.1) c.is_upper.result c.is_upper.ensures)

@@ -1,7 +1,8 @@
 use Rattle.std.proofs.Common.{rules}
-use Rattle.motion.specs.Ends.{AllNear}
+use Rattle.std.proofs.lemmas.Iterator.{YieldsList-from_slice}
+use Rattle.motion.specs.Ends.{LatePair}
+use Rattle.motion.proofs.Asking.{any_decides}
 use Rattle.motion.proofs.stretches.has_late.Goals as goal
 
-pub is_late-requires : goal.is_late-requires
-unfolding AllNear
-is_late-requires c = record { first = c.requires.first; second = c.requires.sides c.loop-side.side-index (search rules) }
+pub returns : goal.returns
+returns c = any_decides (LatePair c.args.first) _ _ _ c.any.ensures.ran (YieldsList-from_slice c.args.sides.now cc) (λ x b q k. search rules)

@@ -4,25 +4,25 @@ use Rattle.exact.proofs.Bounds.{by_near}
 use Rattle.motion.proofs.stretches.wide_value.Goals as goal
 
 pub overflow_mul-result : goal.overflow_mul-result
-overflow_mul-result c = by_size (search (knows, c.requires.corners.from.y, c.requires.place.w) depth 60 fits 99999) tt
+overflow_mul-result c = by_size (search (knows, c.args.s.starts.y, c.requires.w) depth 60 fits 99999) tt
 
 pub overflow_sub-result : goal.overflow_sub-result
-overflow_sub-result c = by_size (search (knows, c.requires.corners.from.y, c.requires.place.y, c.requires.place.w) depth 60 fits 99999) tt
+overflow_sub-result c = by_size (search (knows, c.args.s.starts.y, c.requires.y, c.requires.w) depth 60 fits 99999) tt
 
 pub overflow_mul-result-2 : goal.overflow_mul-result-2
-overflow_mul-result-2 c = by_size (search (knows, c.requires.corners.from.y, c.requires.place.y, c.requires.place.w, c.direction-run.ensures.bound.dx) depth 60 fits 99999) tt
+overflow_mul-result-2 c = by_size (search (knows, c.args.s.starts.y, c.requires.y, c.requires.w, c.direction-run.result.along) depth 60 fits 99999) tt
 
 pub overflow_mul-result-3 : goal.overflow_mul-result-3
-overflow_mul-result-3 c = by_size (search (knows, c.requires.corners.from.x, c.requires.place.w) depth 60 fits 99999) tt
+overflow_mul-result-3 c = by_size (search (knows, c.args.s.starts.x, c.requires.w) depth 60 fits 99999) tt
 
 pub overflow_sub-result-2 : goal.overflow_sub-result-2
-overflow_sub-result-2 c = by_size (search (knows, c.requires.corners.from.x, c.requires.place.x, c.requires.place.w) depth 60 fits 99999) tt
+overflow_sub-result-2 c = by_size (search (knows, c.args.s.starts.x, c.requires.x, c.requires.w) depth 60 fits 99999) tt
 
 pub overflow_mul-result-4 : goal.overflow_mul-result-4
-overflow_mul-result-4 c = by_size (search (knows, c.requires.corners.from.x, c.requires.place.x, c.requires.place.w, c.direction-run.ensures.bound.dy) depth 60 fits 99999) tt
+overflow_mul-result-4 c = by_size (search (knows, c.args.s.starts.x, c.requires.x, c.requires.w, c.direction-run.result.up) depth 60 fits 99999) tt
 
 pub overflow_sub-result-3 : goal.overflow_sub-result-3
-overflow_sub-result-3 c = by_size (search (knows, c.requires.corners.from.x, c.requires.corners.from.y, c.requires.place.x, c.requires.place.y, c.requires.place.w, c.direction-run.ensures.bound.dx, c.direction-run.ensures.bound.dy) depth 60 fits 99999) tt
+overflow_sub-result-3 c = by_size (search (knows, c.args.s.starts.x, c.args.s.starts.y, c.requires.x, c.requires.y, c.requires.w, c.direction-run.result.along, c.direction-run.result.up) depth 60 fits 99999) tt
 
 pub returns : goal.returns
 unfolding side
@@ -30,6 +30,6 @@ returns c =
     let e = c.direction-run.ensures.dx in
     let f = c.direction-run.ensures.dy in
     record {
-      value = by_value (search (knows, c.requires.corners.from.x, c.requires.corners.from.y, c.requires.place.x, c.requires.place.y, c.requires.place.w, c.direction-run.ensures.bound.dx, c.direction-run.ensures.bound.dy) depth 60 fits 99999) (cc);
-      bound = by_near (search (knows, c.requires.corners.from.x, c.requires.corners.from.y, c.requires.place.x, c.requires.place.y, c.requires.place.w, c.direction-run.ensures.bound.dx, c.direction-run.ensures.bound.dy) depth 60 fits 99999) tt;
+      value = by_value (search (knows, c.args.s.starts.x, c.args.s.starts.y, c.requires.x, c.requires.y, c.requires.w, c.direction-run.result.along, c.direction-run.result.up) depth 60 fits 99999) (cc);
+      bound = by_near (search (knows, c.args.s.starts.x, c.args.s.starts.y, c.requires.x, c.requires.y, c.requires.w, c.direction-run.result.along, c.direction-run.result.up) depth 60 fits 99999) tt;
     }

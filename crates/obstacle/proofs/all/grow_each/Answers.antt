@@ -1,28 +1,24 @@
-use Rattle.std.proofs.Common.{◌≡◌, ◌+◌, ◌<◌, List, [], ◌∷◌, ◌++◌, map, length, vec_items, sym, ap, ◌∙◌, subst, arith, rules}
-use Rattle.std.proofs.lemmas.List.{map_push}
-use Rattle.algebra.specs.Hall.{Shape}
+use Rattle.std.proofs.Common.{◌≡◌, length, sym, ap, ◌∙◌, arith, rules}
+use Rattle.std.proofs.lemmas.Iterator.{YieldsList-from_slice}
+use Rattle.std.proofs.lemmas.Iterator.Adapters.{serves_from_places}
+use Rattle.std.proofs.lemmas.Result.{IfOk-weaker}
 use Rattle.hall.specs.Shapes.{shape_of, drawn_within}
-use Rattle.hall.proofs.Kept.{sound_kept}
-use Rattle.obstacle.specs.Freedom.{GrownTo}
-use Rattle.obstacle.specs.Growth.{Grown}
-use Rattle.obstacle.proofs.Freely.{grown_more, shape_item, all_pass_at}
+use Rattle.obstacle.proofs.Freely.{all_pass_at, grown_all}
 use Rattle.obstacle.proofs.all.grow_each.Goals as goal
 
-pub grow-requires : goal.grow-requires
-grow-requires c =
-    let h : c.loop-thing.thing-index < length c.args.things.now = search rules in
-    let n = all_pass_at (drawn_within 1000) c.args.things.now c.loop-thing.thing-index c.thing-item.result h c.thing-item.is c.requires.things in
-    (omega arith, (omega arith, (omega arith, (omega arith, (omega arith, (c.requires.load, n))))))
+pub collect-requires-clause-can : goal.collect-requires-clause-can
+collect-requires-clause-can c = (tt, serves_from_places (YieldsList-from_slice c.args.things.now cc) (λ x q r. search rules) (λ x k h e. let n = all_pass_at (drawn_within 1000) c.args.things.now k x.now h e c.requires.things in search rules))
 
-pub loop-thing-preserved : goal.loop-thing-preserved
-loop-thing-preserved c =
-    let ts = c.args.things.now in
-    let i = c.loop-thing.thing-index in
-    let g = c.grow.result in
-    let h : i < length ts = search rules in
-    let e : vec_items c.push.new.self ≡ vec_items c.loop-thing.grown ++ g ∷ [] = search rules in
-    let t = shape_item ts i c.thing-item.result h c.thing-item.is in
-    let s = sound_kept (shape_of g) g.sound in
-    let w = subst (λ (a : Shape). Grown (shape_of c.args.load.now) a (shape_of g)) (sym t) c.grow.ensures.grown in
-    subst (λ (gs : List Shape). GrownTo (shape_of c.args.load.now) (map shape_of ts) gs (i + 1)) (sym (ap (map shape_of) e ∙ map_push shape_of _ g))
-    (grown_more (shape_of c.args.load.now) (shape_of g) (map shape_of ts) (map shape_of (vec_items c.loop-thing.grown)) i c.loop-thing.invariant s w)
+pub returns : goal.returns
+returns c = IfOk-weaker c.collect.result _ _ (λ v h.
+    let load = c.args.load.now in
+    let p = h tt in
+    let q = c.map.ensures.runs p.0 p.0.seen p.1 in
+    let s = c.iter.ensures.runs q.0 q.0.seen in
+    let e : q.0.from.rest.now ≡ c.args.things.now = cc in
+    let g : v.items ≡ p.0.items = cc in
+    let n : q.0.len ≡ length c.args.things.now = s.1 (q.2.0 ∙ p.2) ∙ ap length e in
+    let l : length p.0.items ≡ length c.args.things.now = sym p.0.long ∙ q.2.1 ∙ n in
+    rw g
+    (grown_all (shape_of load) c.args.things.now p.0.items _ (λ x y w. search rules) q.0.at p.0.at load l
+    (λ k d h. rw e at (s.2 k d (omega arith))) (λ k d h. p.0.reads k d (omega (arith, p.0.long))) (q.2.2 (search rules)).0)) c.collect.ensures.runs

@@ -1,9 +1,9 @@
-use Rattle.std.proofs.Common.{ℕ, subst}
-use Rattle.text.proofs.Euclid.{Alike, alike_rest, greatest_at_end}
+use Rattle.std.proofs.Common.{arith}
+use Rattle.std.proofs.lemmas.Nat.Gcd.{IsGcd-from_zero, IsGcd-from_mod}
 use Rattle.text.proofs.fractions.gcd.Goals as goal
 
 pub loop-b-preserved : goal.loop-b-preserved
-loop-b-preserved c = alike_rest _ _ _ _ c.loop-b.invariant
+loop-b-preserved c g h = c.loop-b.invariant g (IsGcd-from_mod _ _ g h)
 
 pub returns : goal.returns
-returns c = greatest_at_end _ _ _ (subst (λ (b : ℕ). Alike c.args.a c.args.b c.loop-b.a b) c.loop-b-test.false c.loop-b.invariant)
+returns c = c.loop-b.invariant _ (IsGcd-from_zero _ _ (omega arith))

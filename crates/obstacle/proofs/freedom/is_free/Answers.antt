@@ -1,9 +1,0 @@
-use Rattle.obstacle.proofs.Freely.{free_exactly}
-use Rattle.obstacle.proofs.freedom.is_free.Goals as goal
-
-pub returns-then-is_within : goal.returns-then-is_within
-returns-then-is_within c =
-    let x = free_exactly _ _ _ c.requires.obstacles c.requires.place.real in (
-      λ t. x.1 (record { walls = c.is_within.ensures.0 c.if-is_within.true; apart = c.is_apart.ensures.0 t }),
-      λ f. c.is_apart.ensures.1 (x.0 f).apart,
-    )
