@@ -10,7 +10,7 @@ use text::replies::check_reply;
 fn run(rt: &HostRuntime) -> anyhow::Result<()> {
     let mut words = env::args(rt)?.skip(1);
     let (Some(hall), Some(way)) = (words.next(), words.next()) else {
-        eprintln!(rt; "check takes two files: a hall and a way")?;
+        eprintln!(rt; "check_way takes two files: a hall and a way")?;
         return Err(anyhow!("two files are wanted"));
     };
     let hall_bytes = read_file(rt, hall.as_str())?;

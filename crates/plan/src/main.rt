@@ -1,10 +1,12 @@
 // plan [FILE]: reads a hall from a file or from standard input, and prints how its load can be brought from start to goal.
 #![tactic(auto)]
 
+use anyhow::anyhow;
 use std::env;
 use std::io::Read;
 use std::process::ExitCode;
 use text::console::{conclude, read_file, status};
+use text::plans::reply_of;
 use text::replies::plan_reply;
 
 fn input(rt: &HostRuntime) -> anyhow::Result<Vec<u8>> {
@@ -12,7 +14,10 @@ fn input(rt: &HostRuntime) -> anyhow::Result<Vec<u8>> {
         Some(name) => read_file(rt, name.as_str()),
         None => {
             let mut bytes = Vec::new(rt.alloc());
-            rt.stdin().read_to_end(&mut bytes)?;
+            if let Err(why) = rt.stdin().read_to_end(&mut bytes) {
+                eprintln!(rt; "standard input: {why}")?;
+                return Err(anyhow!("standard input can't be read"));
+            }
             Ok(bytes)
         }
     }
@@ -20,7 +25,8 @@ fn input(rt: &HostRuntime) -> anyhow::Result<Vec<u8>> {
 
 fn run(rt: &HostRuntime) -> anyhow::Result<()> {
     let bytes = input(rt)?;
-    conclude(rt, plan_reply(rt.alloc(), bytes.as_slice()))
+    let planned = plan_reply(rt.alloc(), bytes.as_slice());
+    conclude(rt, reply_of(&planned))
 }
 
 fn main(rt: HostRuntime) -> ExitCode {

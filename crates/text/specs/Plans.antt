@@ -1,10 +1,8 @@
--- What the straight stretch from start to goal shows of bytes. Assumes nothing: these are definitions.
-use Rattle.std.specs.Prelude.{◌≡◌, ℕ, ◌⊎◌, List, [], ◌∷◌, map, Some, None, Result, Ok, Err, vec_items}
+-- What the straight stretch from start to goal shows of a hall. Assumes nothing: these are definitions.
+use Rattle.std.specs.Prelude.{◌≡◌, List, [], ◌∷◌, map, Result, Ok, Err, vec_items}
 use Rattle.algebra.specs.Hall.{Place, Free, Straight, Way}
 use Rattle.exact.specs.Points.{place_of}
 use Rattle.hall.specs.declared.refusals.Refusal.{Refusal}
-use Rattle.hall.specs.declared.refusals.Refusal.TheVariants.{Memory}
-use Rattle.hall.specs.Format.{task_fault, task_at}
 use Rattle.hall.specs.Tasks.{Task}
 use Rattle.text.specs.declared.answers.Answer.{Answer}
 use Rattle.text.specs.declared.answers.Answer.TheVariants as answer
@@ -22,13 +20,15 @@ Decided k (plan.Way ps) = (map place_of (vec_items ps) ≡ ends k) × Way k.hall
 Decided k plan.None = (ps : List Place) → Way k.hall k.start ps k.goal → ⊥
 Decided k plan.Undecided = Free k.hall k.start × Free k.hall k.goal × (Straight k.hall k.start k.goal → ⊥)
 
--- bytes with a fault are refused for it; of a hall that is taken this is said, unless memory is wanting
-abbrev pub Outlined : List ℕ → Result Plan Refusal → Type 0
-Outlined bs (Err e) = (task_fault bs ≡ Some e) ⊎ ((e ≡ Memory) × (task_fault bs ≡ None))
-Outlined bs (Ok p) = (task_fault bs ≡ None) × Decided (task_at bs) p
-
 -- a plan as an answer
 abbrev pub Lends : Plan → Answer → Type 0
 Lends (plan.Way ps) a = (qs : _) × (a ≡ answer.Way qs) × (qs.now ≡ vec_items ps)
 Lends plan.None a = a ≡ answer.None
 Lends plan.Undecided a = a ≡ answer.Undecided
+
+-- the reply to be printed: the plan as an answer, or the same refusal
+abbrev pub RepliesWith : Result Plan Refusal → Result Answer Refusal → Type 0
+RepliesWith (Ok p) (Ok a) = Lends p a
+RepliesWith (Ok p) (Err e) = ⊥
+RepliesWith (Err e) (Ok a) = ⊥
+RepliesWith (Err e) (Err f) = f ≡ e

@@ -6,11 +6,13 @@ use Rattle.hall.specs.Format.{task_fault, task_at, way_fault, way_at}
 use Rattle.motion.specs.Driving.{Judged}
 use Rattle.text.specs.declared.answers.Answer.{Answer}
 use Rattle.text.specs.declared.answers.Answer.TheVariants as answer
+use Rattle.text.specs.declared.plans.Plan.{Plan}
+use Rattle.text.specs.Plans.{Decided}
 
--- `plan`: bytes with a fault are refused for it; a hall that is taken is left undecided, unless memory is wanting
-abbrev pub Planned : List ℕ → Result Answer Refusal → Type 0
+-- `plan`: bytes with a fault are refused for it; of a hall that is taken the straight stretch decides, unless memory is wanting
+abbrev pub Planned : List ℕ → Result Plan Refusal → Type 0
 Planned bs (Err e) = (task_fault bs ≡ Some e) ⊎ ((e ≡ Memory) × (task_fault bs ≡ None))
-Planned bs (Ok a) = (a ≡ answer.Undecided) × (task_fault bs ≡ None)
+Planned bs (Ok p) = (task_fault bs ≡ None) × Decided (task_at bs) p
 
 -- what the checker says of the task and the way that the bytes are
 abbrev pub Verdict : List ℕ → List ℕ → Result (Unit {0}) Refusal → Type 0

@@ -1,12 +1,9 @@
-// What the straight stretch from start to goal has to say of a hall. A plan owns the places of a way.
-ghost use Rattle.text.specs.Plans.{Lends, Outlined};
+// A plan owns the places of its way; an answer lends them.
+ghost use Rattle.text.specs.Plans.{Lends, RepliesWith};
 
 use crate::answers::Answer;
 use exact::points::Place;
-use hall::reader::read_hall;
 use hall::refusals::Refusal;
-use motion::direct::{Outlook, look_straight};
-use std::alloc::Global;
 
 // A type of its own beside Answer, since it is never Accepted; one with a parameter for its places would still be lent case by case.
 #[derive(Drop)]
@@ -29,14 +26,12 @@ impl Plan {
     }
 }
 
-// How the load of a hall can be brought from start to goal, as far as the straight stretch shows it.
-pub fn outline(heap: Global, bytes: &[u8]) -> Result<Plan, Refusal>
-    ensures { Outlined bytes.now result }
+// The reply that a plan makes, to be printed.
+pub fn reply_of(planned: &Result<Plan, Refusal>) -> Result<Answer<'_>, Refusal>
+    ensures { RepliesWith planned.now result }
 {
-    let hall = read_hall(heap, bytes)?;
-    Ok(match look_straight(heap, &hall)? {
-        Outlook::Straight => Plan::Way(vec![in heap; hall.start(), hall.goal()]?),
-        Outlook::Shut => Plan::None,
-        Outlook::Open => Plan::Undecided,
-    })
+    match planned {
+        Ok(plan) => Ok(plan.answer()),
+        Err(refusal) => Err(*refusal),
+    }
 }

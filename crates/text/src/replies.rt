@@ -2,17 +2,23 @@
 ghost use Rattle.text.specs.Replies.{Planned, Checked};
 
 use crate::answers::Answer;
+use crate::plans::Plan;
 use hall::reader::{read_hall, read_way};
 use hall::refusals::Refusal;
 use motion::checker::check_route;
+use motion::direct::{Outlook, look_straight};
 use std::alloc::Global;
 
-// Halls are read, and not yet planned.
-pub fn plan_reply(heap: Global, bytes: &[u8]) -> Result<Answer<'static>, Refusal>
+// How the load of a hall can be brought from start to goal, as far as the straight stretch shows it.
+pub fn plan_reply(heap: Global, bytes: &[u8]) -> Result<Plan, Refusal>
     ensures { Planned bytes.now result }
 {
-    read_hall(heap, bytes)?;
-    Ok(Answer::Undecided)
+    let hall = read_hall(heap, bytes)?;
+    Ok(match look_straight(heap, &hall)? {
+        Outlook::Straight => Plan::Way(vec![in heap; hall.start(), hall.goal()]?),
+        Outlook::Shut => Plan::None,
+        Outlook::Open => Plan::Undecided,
+    })
 }
 
 // Whether a way can be driven. What is wrong with the hall comes first, then what is wrong with the way's bytes.

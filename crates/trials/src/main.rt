@@ -10,6 +10,7 @@ use direct::same_places;
 use hall::reader::read_hall;
 use obstacle::all::grow_all;
 use std::fs;
+use text::plans::reply_of;
 use text::rendering::render;
 use text::replies::{check_reply, plan_reply};
 
@@ -18,9 +19,14 @@ fn bytes_of(rt: &HostRuntime, name: &str, ending: &str) -> anyhow::Result<Vec<u8
     Ok(fs::read(rt, file.as_str())?)
 }
 
+fn planned(rt: &HostRuntime, bytes: &[u8]) -> anyhow::Result<String> {
+    let planned = plan_reply(rt.alloc(), bytes);
+    Ok(render(rt.alloc(), reply_of(&planned))?)
+}
+
 fn hall_line(rt: &HostRuntime, name: &str) -> anyhow::Result<()> {
     let bytes = bytes_of(rt, name, "hall")?;
-    let reply = render(rt.alloc(), plan_reply(rt.alloc(), bytes.as_slice()))?;
+    let reply = planned(rt, bytes.as_slice())?;
     print!(rt; "{name}: {reply}")?;
     Ok(())
 }
@@ -38,7 +44,7 @@ fn way_line(rt: &HostRuntime, hall: &str, way: &str) -> anyhow::Result<()> {
 
 // Whether a hall's bytes that are cut short are refused at their length.
 fn is_refused_at_end(rt: &HostRuntime, cut: &[u8]) -> anyhow::Result<bool> {
-    let reply = render(rt.alloc(), plan_reply(rt.alloc(), cut))?;
+    let reply = planned(rt, cut)?;
     let length = cut.len();
     let expected = format!(in rt.alloc(); "refused 1 at {length}\n")?;
     Ok(reply.as_str() == expected.as_str())
@@ -54,7 +60,7 @@ fn cut_lines(rt: &HostRuntime, name: &str) -> anyhow::Result<()> {
     })?;
     println!(rt; "{name}: {right} of {whole} cuts are refused at their length")?;
     bytes.push(0)?;
-    let reply = render(rt.alloc(), plan_reply(rt.alloc(), bytes.as_slice()))?;
+    let reply = planned(rt, bytes.as_slice())?;
     print!(rt; "{name} and a byte: {reply}")?;
     Ok(())
 }
