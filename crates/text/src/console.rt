@@ -1,5 +1,5 @@
-// What the programs do with files and streams. No contract can speak of those, only of the status.
-ghost use Rattle.std.specs.Prelude.{◌≡◌, OnOk, OnErr};
+// What the programs do with files and streams. No contract can speak of those, only of what ends in an error, and of the status.
+ghost use Rattle.std.specs.Prelude.{◌≡◌, IsErr, OnOk, OnErr};
 ghost use Rattle.std.specs.Process.{exit_status};
 
 use crate::answers::Answer;
@@ -21,7 +21,9 @@ pub fn read_file(rt: &HostRuntime, name: &str) -> anyhow::Result<Vec<u8>> {
 }
 
 // Prints a reply; a refusal ends the program with an error.
-pub fn conclude(rt: &HostRuntime, reply: Result<Answer, Refusal>) -> anyhow::Result<()> {
+pub fn conclude(rt: &HostRuntime, reply: Result<Answer, Refusal>) -> anyhow::Result<()>
+    ensures { OnErr reply.entry (IsErr result) }
+{
     let text = render(rt.alloc(), reply)?;
     print!(rt; "{text}")?;
     reply?;
