@@ -1,11 +1,10 @@
 // plan [FILE]: reads a hall from a file or from standard input, and prints how its load can be brought from start to goal.
 #![tactic(auto)]
 
-use anyhow::anyhow;
 use std::env;
 use std::io::Read;
 use std::process::ExitCode;
-use text::console::{conclude, read_file, status};
+use text::console::{conclude, read_file, status, taken};
 use text::plans::reply_of;
 use text::replies::plan_reply;
 
@@ -14,10 +13,7 @@ fn input(rt: &HostRuntime) -> anyhow::Result<Vec<u8>> {
         Some(name) => read_file(rt, name.as_str()),
         None => {
             let mut bytes = Vec::new(rt.alloc());
-            if let Err(why) = rt.stdin().read_to_end(&mut bytes) {
-                eprintln!(rt; "standard input: {why}")?;
-                return Err(anyhow!("standard input can't be read"));
-            }
+            taken(rt, "standard input", rt.stdin().read_to_end(&mut bytes))?;
             Ok(bytes)
         }
     }

@@ -4,20 +4,21 @@ ghost use Rattle.std.specs.Process.{exit_status};
 
 use crate::answers::Answer;
 use crate::rendering::render;
-use anyhow::anyhow;
 use hall::refusals::Refusal;
-use std::fs;
 use std::process::ExitCode;
+use std::{fs, io};
 
-// The bytes of a file. Where it can't be read, standard error says which and why.
-pub fn read_file(rt: &HostRuntime, name: &str) -> anyhow::Result<Vec<u8>> {
-    match fs::read(rt, name) {
-        Ok(bytes) => Ok(bytes),
-        Err(why) => {
-            eprintln!(rt; "{name}: {why}")?;
-            Err(anyhow!("a file can't be read"))
-        }
+// What was read from a source. Where that can't be read, standard error says which and why.
+pub fn taken<T: Drop>(rt: &HostRuntime, source: &str, read: io::Result<T>) -> anyhow::Result<T> {
+    if let Err(why) = &read {
+        eprintln!(rt; "{source}: {why}")?;
     }
+    Ok(read?)
+}
+
+// The bytes of a file.
+pub fn read_file(rt: &HostRuntime, name: &str) -> anyhow::Result<Vec<u8>> {
+    taken(rt, name, fs::read(rt, name))
 }
 
 // Prints a reply; a refusal ends the program with an error.

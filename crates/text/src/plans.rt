@@ -30,8 +30,8 @@ impl Plan {
 pub fn reply_of(planned: &Result<Plan, Refusal>) -> Result<Answer<'_>, Refusal>
     ensures { RepliesWith planned.now result }
 {
-    match planned {
-        Ok(plan) => Ok(plan.answer()),
-        Err(refusal) => Err(*refusal),
-    }
+    planned
+        .as_ref()
+        .map(Plan::answer)
+        .map_err(|refusal| *refusal)
 }
