@@ -1,5 +1,5 @@
 // What the programs do with files and streams. No contract can speak of those, only of what ends in an error, and of the status.
-ghost use Rattle.std.specs.Prelude.{◌≡◌, IsErr, OnOk, OnErr};
+ghost use Rattle.std.specs.Prelude.{◌≡◌, Ok, IfOk, IsOk, IsErr, OnOk, OnErr};
 ghost use Rattle.std.specs.Process.{exit_status};
 
 use crate::answers::Answer;
@@ -9,7 +9,10 @@ use std::process::ExitCode;
 use std::{fs, io};
 
 // What was read from a source. Where that can't be read, standard error says which and why.
-pub fn taken<T: Drop>(rt: &HostRuntime, source: &str, read: io::Result<T>) -> anyhow::Result<T> {
+pub fn taken<T: Drop>(rt: &HostRuntime, source: &str, read: io::Result<T>) -> anyhow::Result<T>
+    ensures same { IfOk result (λ x. read ≡ Ok x) }
+    ensures ok { OnOk read (IsOk result) }
+{
     if let Err(why) = &read {
         eprintln!(rt; "{source}: {why}")?;
     }
