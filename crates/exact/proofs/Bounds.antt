@@ -2,6 +2,7 @@
 --     by_near (search knows depth 60 fits 99999) tt
 -- Assumes nothing.
 use Rattle.std.proofs.Common.{◌≡◌, ℕ, ◌≤◌, Bool, true, false, ◌&&◌, T, eqb, leb, ℤ, pos, ◌≤ℤ◌, ◌<ℤ◌, Decides, Ordering, Less, Equal, Greater, sym, refl, ap, ◌∙◌, subst, arith, leb→le, SFits, to_z, of_z}
+use lib.Signed.{lt_z}
 use mir.Syntax.{Width}
 use borrow.Author.Differences.{ints}
 use Rattle.std.specs.Ordering.{MatchOrdering}
@@ -9,8 +10,9 @@ use Rattle.std.proofs.lemmas.Int.{by_lt_z, to_z-of_z}
 use Rattle.std.proofs.lemmas.Bool.{both_ways, eqb-true, eq-eqb}
 use Rattle.algebra.specs.Near.{Near}
 use Rattle.algebra.proofs.Ranges.{Known, range_pos, room, k_near, by_size}
+use Rattle.exact.specs.declared.points.Place.{Place}
 use Rattle.exact.specs.declared.points.Side.{Side}
-use Rattle.exact.specs.Sides.{SideNear}
+use Rattle.exact.specs.Sides.{SideNear, PlaceNear}
 
 both : (s t : Bool) → T (s && t) → T s × T t
 both true true h = (tt, tt)
@@ -31,6 +33,9 @@ k_pos {n} {m} h = record { value = pos n; low = 0; high = m; same = refl; range 
 pub wider : {m n : ℕ} {z : ℤ} → Near m z → T (leb m n) → Near n z
 wider {m} {n} {z} h t = let l : m ≤ n = leb→le m n t in record { low = omega (arith, ints); high = omega (arith, ints) }
 
+pub place_wider : {m n i j : ℕ} {p : Place} → PlaceNear m n p → T (leb m i) → T (leb n j) → PlaceNear i j p
+place_wider {m} {n} {i} {j} {p} h s t = record { x = wider h.x s; y = wider h.y s; real = h.real; most = let l : n ≤ j = leb→le n j t in omega (arith, h.most) }
+
 -- the ends of a side are near by its type
 pub side_near : (s : Side) → SideNear 2047 s
 side_near s = record { from = s.starts; to = s.ends }
@@ -38,6 +43,9 @@ side_near s = record { from = s.starts; to = s.ends }
 -- tests that came out false
 pub not_above : (r : Bool) (z : ℤ) → Decides r (pos 0 <ℤ z) → r ≡ false → z ≤ℤ pos 0
 not_above r z d e = by_lt_z (pos 0) z (λ h. absurd (both_ways r e (d.1 h))) (λ h. h)
+
+pub zero_between : (z : ℤ) → lt_z z (pos 0) ≡ false → lt_z (pos 0) z ≡ false → z ≡ pos 0
+zero_between z h k = grind (arith, ints)
 
 -- a number that goes to its bits and back
 pub kept : (w : Width) (z : ℤ) {m : ℕ} → Near m z → T (room w m m) → to_z w (of_z w z) ≡ z

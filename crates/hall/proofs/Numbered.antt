@@ -1,10 +1,12 @@
 -- A map whose keys are below a number takes that number at its end. Assumes nothing.
-use Rattle.std.proofs.Common.{◌≡◌, ℕ, suc, ◌<◌, List, [], ◌∷◌, ◌++◌, Greater, sym, refl, ap, ◌∙◌, arith}
+use Rattle.std.proofs.Common.{◌≡◌, ℕ, suc, ◌<◌, List, [], ◌∷◌, ◌++◌, Greater, Result, Ok, Err, is_err, false, sym, refl, ap, ◌∙◌, arith}
 use Rattle.std.specs.BTreeMap.{insert_entry}
 use Rattle.std.specs.Cmp.{nat_cmp_is}
 use Rattle.std.specs.List.{All}
 use Rattle.std.specs.Map.{keys_of, values_of}
+use Rattle.std.specs.Result.{OnOk}
 use Rattle.std.specs.Ordering.{match_ordering, nat_cmp}
+use Rattle.std.proofs.lemmas.Bool.{true≢false}
 use Rattle.std.proofs.lemmas.List.{map-append}
 
 -- each key is below the number
@@ -25,3 +27,8 @@ appended (e ∷ es) k v b =
 
 pub values_appended : {X : Type 0} (es : List (ℕ × X)) (k : ℕ) (v : X) → Below k es → values_of (insert_entry nat_cmp es k v) ≡ values_of es ++ v ∷ []
 values_appended es k v b = ap values_of (appended es k v b) ∙ map-append (λ e. e.1) es ((k, v) ∷ [])
+
+-- what holds of a result that is no refusal
+pub on_ok : {X Y : Type 0} {P : Type 0} (r : Result X Y) → OnOk r P → is_err r ≡ false → P
+on_ok (Ok x) h e = h
+on_ok (Err y) h e = absurd (true≢false e)

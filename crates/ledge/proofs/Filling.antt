@@ -1,36 +1,36 @@
--- What a function of the number makes of an array, and so the falls of every obstacle. Assumes nothing.
-use Rattle.std.proofs.Common.{◌≡◌, ℕ, zero, suc, ◌+◌, ◌*◌, ◌/◌, ◌%◌, ◌<◌, ◌≤◌, List, length, get_or, Option, None, sym, refl, subst, ⊎_elim, arith}
-use Rattle.std.proofs.lemmas.Bool.{cases_eq}
-use Rattle.std.specs.Array.{IsFromFnResultFrom}
-use Rattle.std.specs.Fn.{Called}
-use denote.Param.Members.{Mut}
+-- The falls of every obstacle, by their places in a list. Assumes nothing.
+use Rattle.std.proofs.Common.{◌≡◌, ℕ, ◌+◌, ◌*◌, ◌<◌, List, length, get_or, None, Option, sym, ◌∙◌, subst, arith, below_more}
+use Rattle.std.proofs.lemmas.List.{length-replicate, get_or-set_same, get_or-set_other, length-set}
+use Rattle.std.proofs.Math.ListN.{set, replicate}
 use Rattle.algebra.specs.Hall.{Shape, Hall}
 use Rattle.ledge.specs.declared.descents.Descent.{Descent}
 use Rattle.ledge.specs.declared.descents.Hand.TheVariants as hand
-use Rattle.ledge.specs.Descents.{DescentIs, DescentAt, AllDescents}
+use Rattle.ledge.specs.Descents.{DescentIs, AllDescents}
 
--- where each call leaves the function as it was
-module _ {F B : Type 0} (g : Mut F (ℕ × Unit {0}) B) (f : F) (P : ℕ → B → Type 0) (each : (i : ℕ) (y : B) (q : F) → Called g f (i, tt) y q → (q ≡ f) × P i y) (ys : List B) where
-  pub made_at : (i n : ℕ) → IsFromFnResultFrom g f ys i n → (k : ℕ) (d : B) → i ≤ k → k < i + n → P k (get_or ys k d)
-  made_at i zero h k d l m = absurd (omega arith)
-  made_at i (suc n) h k d l m =
-      let e = each i h.1 h.0 h.3 in
-      ⊎_elim
-      (λ s. subst (λ (j : ℕ). P j (get_or ys j d)) (sym s) (subst (P i) (sym (h.2.1 d)) e.1))
-      (λ o. made_at (i + 1) n (subst (λ (q : F). IsFromFnResultFrom g q ys (i + 1) n) e.0 h.4) k d (omega arith) (omega arith))
-      (cases_eq k i)
+module _ (h : Hall) (gs : List Shape) where
+  -- those of the first n obstacles
+  pub record Filled (n : ℕ) (ds : List (Option Descent)) : Type 0 where
+    pub count : length ds ≡ 80
+    pub left : (k : ℕ) → k < n → DescentIs h gs k hand.Left (get_or ds (2 * k) None)
+    pub right : (k : ℕ) → k < n → DescentIs h gs k hand.Right (get_or ds (2 * k + 1) None)
 
--- by the hand
-pub descent_even : (h : Hall) (gs : List Shape) (i : ℕ) (r : Option Descent) → i % 2 ≡ 0 → DescentIs h gs (i / 2) hand.Left r → DescentAt h gs i r
-descent_even h gs i r z d = record { left = λ k e. subst (λ (j : ℕ). DescentIs h gs j hand.Left r) (omega arith) d; right = λ k e. absurd (omega arith) }
+  pub filled_none : Filled 0 (replicate 80 None)
+  filled_none = record { count = length-replicate {A = Option Descent} 80 None; left = λ k l. absurd (omega arith); right = λ k l. absurd (omega arith) }
 
-pub descent_odd : (h : Hall) (gs : List Shape) (i : ℕ) (r : Option Descent) → (i % 2 ≡ 0 → ⊥) → DescentIs h gs (i / 2) hand.Right r → DescentAt h gs i r
-descent_odd h gs i r z d = record { left = λ k e. absurd (z (omega arith)); right = λ k e. subst (λ (j : ℕ). DescentIs h gs j hand.Right r) (omega arith) d }
+  pub filled_all : (ds : List (Option Descent)) → Filled (length gs) ds → AllDescents h gs ds
+  filled_all ds f = record { count = f.count; left = f.left; right = f.right }
 
-pub all_descents : (h : Hall) (gs : List Shape) (ds : List (Option Descent)) → length gs ≤ 40 → length ds ≡ 80 → ((i : ℕ) → i < 80 → DescentAt h gs i (get_or ds i None)) → AllDescents h gs ds
-all_descents h gs ds few n at =
-    record {
-      count = n;
-      left = λ k l. (at (2 * k) (omega arith)).left k refl;
-      right = λ k l. (at (2 * k + 1) (omega arith)).right k refl;
-    }
+  module _ (n : ℕ) (ds : List (Option Descent)) (f : Filled n ds) (few : n < 40) (a b : Option Descent) where
+    kept : (j : ℕ) → j < 2 * n → get_or (set (set ds (2 * n) a) (2 * n + 1) b) j None ≡ get_or ds j None
+    kept j l = get_or-set_other (set ds (2 * n) a) (2 * n + 1) j b None (omega arith) ∙ get_or-set_other ds (2 * n) j a None (omega arith)
+
+    pub filled_more : DescentIs h gs n hand.Left a → DescentIs h gs n hand.Right b → Filled (n + 1) (set (set ds (2 * n) a) (2 * n + 1) b)
+    filled_more p q =
+        let c = length-set (set ds (2 * n) a) (2 * n + 1) b ∙ (length-set ds (2 * n) a ∙ f.count) in
+        let first = get_or-set_other (set ds (2 * n) a) (2 * n + 1) (2 * n) b None (omega arith) ∙ get_or-set_same ds (2 * n) a None (omega (arith, f.count)) in
+        let second = get_or-set_same (set ds (2 * n) a) (2 * n + 1) b None (omega (arith, f.count, length-set ds (2 * n) a)) in
+        record {
+          count = c;
+          left = below_more _ _ (λ k l. subst (DescentIs h gs k hand.Left) (sym (kept (2 * k) (omega arith))) (f.left k l)) (subst (DescentIs h gs n hand.Left) (sym first) p);
+          right = below_more _ _ (λ k l. subst (DescentIs h gs k hand.Right) (sym (kept (2 * k + 1) (omega arith))) (f.right k l)) (subst (DescentIs h gs n hand.Right) (sym second) q);
+        }

@@ -1,10 +1,9 @@
 -- What bars the places of a surface: how far its ends are beyond a wall, and the shadows of all bars together. Assumes nothing.
-use Rattle.std.proofs.Common.{◌≡◌, ℕ, zero, suc, ◌+◌, ◌-◌, ◌*◌, ◌<◌, ◌≤◌, List, [], ◌∷◌, length, get_or, slice_index_or, ℤ, pos, ◌+ℤ◌, ◌-ℤ◌, ◌*ℤ◌, ◌<ℤ◌, Some, None, Option, sym, refl, ◌∙◌, subst, ap₂, ⊎_elim, arith, MatchOption}
-use denote.Param.Members.{Mut, Called}
-use Rattle.std.specs.Array.{IsFromFnResult, IsFromFnResultFrom}
+use Rattle.std.proofs.Common.{◌≡◌, ℕ, zero, suc, ◌+◌, ◌-◌, ◌*◌, ◌<◌, ◌≤◌, List, [], ◌∷◌, length, get_or, ℤ, pos, ◌+ℤ◌, ◌-ℤ◌, ◌*ℤ◌, ◌<ℤ◌, Some, None, Option, sym, refl, ◌∙◌, subst, ap₂, ⊎_elim, arith, MatchOption}
 use borrow.Author.Differences.{ints}
-use Rattle.std.proofs.lemmas.Bool.{cases_lt}
-use Rattle.std.proofs.lemmas.List.{get_or_past}
+use Rattle.std.proofs.lemmas.Bool.{cases_eq, cases_lt}
+use Rattle.std.proofs.lemmas.List.{length-replicate, get_or_past, get_or-replicate, get_or-set_same, get_or-set_other, length-set}
+use Rattle.std.proofs.Math.ListN.{set, replicate}
 use Rattle.std.proofs.lemmas.Int.{by_lt_z}
 use Rattle.algebra.specs.Hall.{Corner, Place, Shape, Hall, at, between}
 use Rattle.algebra.specs.Near.{Near}
@@ -23,19 +22,6 @@ use Rattle.ledge.specs.Lights.{past, wall_number, Barred, Bars, Lights}
 use Rattle.ledge.specs.Runs.{Lit, Shaded}
 use Rattle.ledge.specs.Shadows.{Dark, Opens, reading, Cut, Gone, Casts}
 use Rattle.ledge.specs.Surfaces.{obstacle}
-
--- ---- `from_fn` with a closure that changes nothing: what each call gave
-from_fn_gave : {F B : Type 0} (g : Mut F (ℕ × Unit {0}) B) (P : ℕ → B → Type 0) (f : F) → ((i : ℕ) (y : B) (q : F) → Called g f (i, tt) y q → P i y × (q ≡ f)) →
-    (n i : ℕ) (ys : List B) → IsFromFnResultFrom g f ys i n → (k : ℕ) → k < n → (d : B) → P (i + k) (slice_index_or ys (i + k) d)
-from_fn_gave g P f gives zero i ys r k l d = absurd (omega arith)
-from_fn_gave g P f gives (suc n) i ys (q, y, is, call, rest) zero l d = let e : i + 0 ≡ i = omega arith in rw (e, is.1 d) (gives i y q call).0
-from_fn_gave g P f gives (suc n) i ys (q, y, is, call, rest) (suc k) l d =
-    let e : i + 1 + k ≡ i + suc k = omega arith in
-    rw (← e) (from_fn_gave g P f gives n (i + 1) ys (rw (← (gives i y q call).1) rest) k (omega arith) d)
-
-from_fn_at : {F B : Type 0} (g : Mut F (ℕ × Unit {0}) B) (P : ℕ → B → Type 0) (f : F) → ((i : ℕ) (y : B) (q : F) → Called g f (i, tt) y q → P i y × (q ≡ f)) →
-    (n k : ℕ) (ys : List B) → IsFromFnResultFrom g f ys 0 n → k < n → (d : B) → P k (slice_index_or ys k d)
-from_fn_at g P f gives n k ys r l d = let e : 0 + k ≡ k = omega arith in rw e at (from_fn_gave g P f gives n 0 ys r k l d)
 
 -- ---- the walls
 -- how far a place is beyond a wall is a linear form of it
@@ -113,21 +99,35 @@ module _ (h : Hall) (gs : List Shape) (a b : Corner) where
         apart = λ k l d. n (suc (suc (suc (suc k)))) (omega arith) d;
       }
 
-  -- ---- the shadows of all bars, each at its number
-  pub record Cast (ss : List (Option Shadow)) : Type 0 where
+  -- ---- the shadows of the first n bars
+  pub record Cast (n : ℕ) (ss : List (Option Shadow)) : Type 0 where
     pub count : length ss ≡ 44
-    pub bars : (k : ℕ) → k < 4 + length gs → Bars h gs a b k (get_or ss k None)
-    pub none : (k : ℕ) → 4 + length gs ≤ k → get_or ss k None ≡ None
+    pub bars : (k : ℕ) → k < n → Bars h gs a b k (get_or ss k None)
+    pub none : (k : ℕ) → n ≤ k → get_or ss k None ≡ None
 
-  -- where each call of a closure gave the shadow of one bar
-  pub cast_from : {F : Type 0} (g : Mut F (ℕ × Unit {0}) (Option Shadow)) (f : F) (count few : ℕ) (ss : List (Option Shadow)) → IsFromFnResult g f ss count → count ≡ 44 → few ≡ length gs → few ≤ 40 →
-      ((j : ℕ) (o : Option Shadow) (q : F) → Called g f (j, tt) o q → ((j < 4 + few → Bars h gs a b j o) × (4 + few ≤ j → o ≡ None)) × (q ≡ f)) → Cast ss
-  cast_from g f count few ss r is same l gives =
-      let at = λ (k : ℕ) (m : k < count). from_fn_at g (λ (j : ℕ) (o : Option Shadow). (j < 4 + few → Bars h gs a b j o) × (4 + few ≤ j → o ≡ None)) f gives count k ss r.each m None in
+  pub cast_none : Cast 0 (replicate 44 None)
+  cast_none =
       record {
-        count = r.long ∙ is;
-        bars = λ k m. (at k (omega arith)).0 (omega arith);
-        none = λ k m. ⊎_elim (λ i. (at k i).1 (omega arith)) (λ i. get_or_past ss k None (omega (arith, r.long))) (cases_lt k count);
+        count = length-replicate {A = Option Shadow} 44 None;
+        bars = λ k l. absurd (omega arith);
+        none = λ k _.
+            ⊎_elim
+            (λ l. get_or-replicate 44 k None None l)
+            (λ l. get_or_past (replicate 44 None) k None (omega (arith, length-replicate {A = Option Shadow} 44 None)))
+            (cases_lt k 44);
+      }
+
+  pub cast_more : (n : ℕ) (ss : List (Option Shadow)) (r : Option Shadow) → Cast n ss → n < 44 → Bars h gs a b n r → Cast (n + 1) (set ss n r)
+  cast_more n ss r c l d =
+      let m : n < length ss = omega (arith, c.count) in
+      record {
+        count = length-set ss n r ∙ c.count;
+        bars = λ k i.
+            ⊎_elim
+            (λ e. subst (λ (j : ℕ). Bars h gs a b j (get_or (set ss n r) j None)) (sym e) (subst (Bars h gs a b n) (sym (get_or-set_same ss n r None m)) d))
+            (λ e. subst (Bars h gs a b k) (sym (get_or-set_other ss n k r None e)) (c.bars k (omega arith)))
+            (cases_eq k n);
+        none = λ k i. get_or-set_other ss n k r None (omega arith) ∙ c.none k (omega arith);
       }
 
   shaded_barred : (j : ℕ) (o : Option Shadow) → Bars h gs a b j o → (t u : ℕ) → 0 < t + u → Shaded o t u → Barred h gs j (between (at a) (at b) t u)
@@ -142,7 +142,7 @@ module _ (h : Hall) (gs : List Shape) (a b : Corner) where
   opens_of j None x d e = let z : ◌≡◌ {A = ℕ} 0 1 = cc in absurd (omega arith)
   opens_of j (Some y) x d e = let z : y ≡ x = cc in subst Opens z d.opens
 
-  pub cast_lights : (ss : List (Option Shadow)) → length gs ≤ 40 → Cast ss → Lights h gs a b ss
+  pub cast_lights : (ss : List (Option Shadow)) → length gs ≤ 40 → Cast (4 + length gs) ss → Lights h gs a b ss
   unfolding Lit AllOpen
   cast_lights ss few c =
       record {

@@ -24,19 +24,19 @@ use Rattle.ledge.proofs.Spotting.{before_then, then_before}
 
 -- ---- the later and the earlier of two spots
 module _ (a b : Spot) where
-  later_first : Before b.t b.u a.t a.u → Later (Some a) b a
+  pub later_first : Before b.t b.u a.t a.u → Later (Some a) b a
   unfolding Later
   later_first h t u s = (λ k. (k, before_then b.t b.u a.t a.u t u s h (omega arith)), λ k l. k)
 
-  later_second : NotAfter a.t a.u b.t b.u → Later (Some a) b b
+  pub later_second : NotAfter a.t a.u b.t b.u → Later (Some a) b b
   unfolding Later
   later_second h t u s = (λ k. (then_before a.t a.u b.t b.u t u a.some h k, k), λ k l. l)
 
-  earlier_first : Before a.t a.u b.t b.u → Earlier (Some a) b a
+  pub earlier_first : Before a.t a.u b.t b.u → Earlier (Some a) b a
   unfolding Earlier
   earlier_first h t u s = (λ k. (k, before_then t u a.t a.u b.t b.u b.some k (omega arith)), λ k l. k)
 
-  earlier_second : NotAfter b.t b.u a.t a.u → Earlier (Some a) b b
+  pub earlier_second : NotAfter b.t b.u a.t a.u → Earlier (Some a) b b
   unfolding Earlier
   earlier_second h t u s = (λ k. (before_then t u b.t b.u a.t a.u a.some k h, k), λ k l. l)
 
@@ -44,11 +44,11 @@ module _ (a b : Spot) where
   pub no_room : NotAfter b.t b.u a.t a.u → (t u : ℕ) → Before a.t a.u t u → Before t u b.t b.u → ⊥
   no_room h t u k l = omega (arith, before_then t u b.t b.u a.t a.u a.some l h)
 
-later_alone : (b : Spot) → Later None b b
+pub later_alone : (b : Spot) → Later None b b
 unfolding Later
 later_alone b t u s = (λ k. (tt, k), λ k l. l)
 
-earlier_alone : (b : Spot) → Earlier None b b
+pub earlier_alone : (b : Spot) → Earlier None b b
 unfolding Earlier
 earlier_alone b t u s = (λ k. (tt, k), λ k l. l)
 

@@ -1,7 +1,7 @@
 -- The order of spots, and where a form that changes its sign along a surface is above 0. Assumes nothing.
 use Rattle.std.proofs.Common.{◌≡◌, ℕ, ◌+◌, ◌*◌, ◌<◌, true, false, [], ◌∷◌, ℤ, pos, ◌+ℤ◌, ◌-ℤ◌, ◌*ℤ◌, neg_ℤ, ◌≤ℤ◌, ◌<ℤ◌, Ordering, Less, Equal, Greater, sym, refl, ◌∙◌, ap₂, arith}
 use borrow.Author.Differences.{ints}
-use Rattle.std.specs.Ordering.{MatchOrdering, is_lt}
+use Rattle.std.specs.Ordering.{MatchOrdering, is_lt, is_gt}
 use Rattle.std.proofs.lemmas.Bool.{both_ways}
 use Rattle.algebra.proofs.Polynomial.{forms, by_ring}
 use Rattle.algebra.proofs.Order.{signs, by-<, by-≤, pos≥0, pos>0, untimes-<, untimes-≤, times-≤}
@@ -65,6 +65,16 @@ module _ (f g : ℤ) (t u : ℕ) where
   above_all h k s = omega (arith, ints, times-≤ (pos 1) f (pos u) (omega (arith, ints)) (pos≥0 u), times-≤ (pos 1) g (pos t) (omega (arith, ints)) (pos≥0 t))
 
 -- ---- what `order` found, by the test that was made of it
+pub is_after : (r : Ordering) (t u v w : ℕ) → MatchOrdering r (Before t u v w) (Together t u v w) (Before v w t u) → is_gt r ≡ true → Before v w t u
+is_after Less t u v w h e = absurd (both_ways false refl e)
+is_after Equal t u v w h e = absurd (both_ways false refl e)
+is_after Greater t u v w h e = h
+
+pub not_after : (r : Ordering) (t u v w : ℕ) → MatchOrdering r (Before t u v w) (Together t u v w) (Before v w t u) → is_gt r ≡ false → NotAfter t u v w
+not_after Less t u v w h e = omega arith
+not_after Equal t u v w h e = omega arith
+not_after Greater t u v w h e = absurd (both_ways true e refl)
+
 pub is_before : (r : Ordering) (t u v w : ℕ) → MatchOrdering r (Before t u v w) (Together t u v w) (Before v w t u) → is_lt r ≡ true → Before t u v w
 is_before Less t u v w h e = h
 is_before Equal t u v w h e = absurd (both_ways false refl e)

@@ -62,11 +62,6 @@ NoTip h gs k side = (i : ℕ) (e : Place) → Tip h gs k i e → Outermost (obst
 abbrev pub DescentIs : Hall → List Shape → ℕ → Hand → Option Descent → Type 0
 DescentIs h gs k side r = MatchOption r (NoTip h gs k side) (FallsFrom h gs k side)
 
--- the fall that stands at i in a list
-pub record DescentAt (h : Hall) (gs : List Shape) (i : ℕ) (r : Option Descent) : Type 0 where
-  pub left : (k : ℕ) → i ≡ 2 * k → DescentIs h gs k hand.Left r
-  pub right : (k : ℕ) → i ≡ 2 * k + 1 → DescentIs h gs k hand.Right r
-
 -- the falls of every obstacle, by their places in a list
 pub record AllDescents (h : Hall) (gs : List Shape) (ds : List (Option Descent)) : Type 0 where
   pub count : length ds ≡ 80

@@ -4,7 +4,7 @@ ghost use Rattle.hall.specs.Shapes.{shape_of};
 ghost use Rattle.hall.specs.Sides.{pair_of};
 ghost use Rattle.exact.specs.Points.{corner_of};
 ghost use Rattle.exact.specs.Sides.{CornerNear};
-ghost use Rattle.ledge.specs.Descents.{TipSide, NoTipSide, TipPair, DescentIs, DescentAt, AllDescents, pair_end};
+ghost use Rattle.ledge.specs.Descents.{TipSide, NoTipSide, TipPair, DescentIs, AllDescents, pair_end};
 
 use crate::floors::floor_of;
 use crate::surfaces::Surface;
@@ -58,8 +58,8 @@ fn is_tip_side(shape: &Shape<16>, side: Side, hand: Hand) -> bool
     side.to.x < side.from.x && end.is_outermost(shape, hand)
 }
 
-// The fall from the end of an obstacle's upper chain, if the load can stand there. That a site has at most 40 obstacles is said here, and of `descent_at`,
-// since nothing in `descents` itself looks into the site.
+// The fall from the end of an obstacle's upper chain, if the load can stand there. That a site has at most 40 obstacles is said here, where the site's
+// promise of it is at hand.
 fn descent_of(site: &Site, obstacle: usize, hand: Hand) -> Option<Descent>
     ensures value { DescentIs site.now.task.hall site.now.obstacles obstacle hand result }
     ensures few { length site.now.obstacles ≤ 40 }
@@ -82,14 +82,11 @@ fn descent_of(site: &Site, obstacle: usize, hand: Hand) -> Option<Descent>
 pub fn descents(site: &Site) -> [Option<Descent>; 80]
     ensures { AllDescents site.now.task.hall site.now.obstacles result }
 {
-    std::array::from_fn(|i| descent_at(site, i))
-}
-
-// The fall that stands at i.
-fn descent_at(site: &Site, i: usize) -> Option<Descent>
-    ensures value { DescentAt site.now.task.hall site.now.obstacles i result }
-    ensures few { length site.now.obstacles ≤ 40 }
-{
-    let hand = if i % 2 == 0 { Hand::Left } else { Hand::Right };
-    descent_of(site, i / 2, hand)
+    // By number, over the obstacles that there are: `from_fn` would ask for all of the list.
+    let mut all = [None; 80];
+    for k in 0..site.obstacles.len() {
+        all[2 * k] = descent_of(site, k, Hand::Left);
+        all[2 * k + 1] = descent_of(site, k, Hand::Right);
+    }
+    all
 }

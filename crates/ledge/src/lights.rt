@@ -78,5 +78,10 @@ pub fn cast_all(hall: &Hall, obstacles: &[Shape<16>], surface: Side) -> [Option<
     requires { length obstacles.now ≤ 40 }
     ensures { Lights (task_of hall.now).hall (map shape_of obstacles.now) (corner_of surface.from) (corner_of surface.to) result }
 {
-    std::array::from_fn(|j| shadow_of(hall, obstacles, surface, j))
+    // By number, over the bars that there are: `from_fn` would ask for all of the array.
+    let mut shadows = [None; 44];
+    for j in 0..4 + obstacles.len() {
+        shadows[j] = shadow_of(hall, obstacles, surface, j);
+    }
+    shadows
 }

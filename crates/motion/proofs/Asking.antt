@@ -1,15 +1,17 @@
--- What `any` answers where each call decides a fact of its item, what `from_fn` makes, and what holds of images. Assumes nothing.
-use Rattle.std.proofs.Common.{◌≡◌, ℕ, zero, suc, ◌+◌, ◌<◌, ◌≤◌, Bool, true, false, List, [], ◌∷◌, Decides, Option, map, length, get_or, ⊎_elim, refl, sym, subst, arith}
-use Rattle.std.specs.Array.{IsFromFnResult, IsFromFnResultFrom}
+-- What `any` answers where each call decides a fact of its item, what `position` answers over any chain, and what holds of images. Assumes nothing.
+use Rattle.std.proofs.Common.{◌≡◌, ℕ, zero, suc, ◌+◌, ◌<◌, ◌≤◌, Bool, true, false, List, [], ◌∷◌, Decides, Option, None, Some, map, length, get_or, refl, sym, subst, arith}
 use Rattle.std.specs.Bool.{MatchBool}
 use Rattle.std.specs.Fn.{Called}
 use Rattle.std.specs.Iterator.{YieldsThen}
+use Rattle.std.specs.Iterator.Runs.{Run, CallKeepsClosure, AllItemsGive, IsFirstToGive}
 use Rattle.std.specs.List.{FoldsTo, Any, AllWithin, HoldsAt}
-use Rattle.std.specs.Option.{MatchOption}
-use Rattle.std.proofs.lemmas.Bool.{false≢true, cases_eq}
+use Rattle.std.specs.Option.{MatchOption, IfSome, IsSomeAnd, option_map}
+use Rattle.std.proofs.lemmas.Bool.{false≢true}
 use Rattle.std.proofs.lemmas.Bool.Decides.{not_from_Decides}
 use Rattle.std.proofs.lemmas.Iterator.{YieldsList, cases_from_any}
+use Rattle.std.proofs.lemmas.Option.{none-some, same_Some}
 use denote.Param.Members.{Mut}
+use denote.Ref.{Bor}
 
 any_at : {B : Type 0} (P : B → Type 0) (xs : List B) (k : ℕ) → k < length xs → HoldsAt P xs k → Any P xs
 any_at P [] k l h = absurd (omega arith)
@@ -29,16 +31,36 @@ module _ {S A B F : Type 0} {steps : S → Option A → S → Type 0} {v : A →
       decided P all r (cases_from_any u f r P (λ x. P x → ⊥) ran road
       (λ x q k. (says x true q k).1.0 refl) (λ x q k. let d = says x false q k in (d.0, not_from_Decides false d.1 refl)))
 
--- what holds of each element of an array that a function of the index makes
-module _ {F B : Type 0} {g : Mut F (ℕ × Unit {0}) B} (f : F) (P : ℕ → B → Type 0) (says : (i : ℕ) (y : B) (q : F) → Called g f (i, tt) y q → (q ≡ f) × P i y) where
-  made_from : (ys : List B) (h : F) (i n : ℕ) → h ≡ f → IsFromFnResultFrom g h ys i n → (k : ℕ) (d : B) → i ≤ k → k < i + n → P k (get_or ys k d)
-  made_from ys h i zero e m k d a l = absurd (omega arith)
-  made_from ys h i (suc n) e m k d a l =
-      let s = says i m.1 m.0 (subst (λ (x : F). Called g x (i, tt) m.1 m.0) e m.3) in
-      ⊎_elim (λ (x : k ≡ i). rw (x, m.2.1) s.1) (λ x. made_from ys m.0 (i + 1) n s.0 m.4 k d (omega arith) (omega arith)) (cases_eq k i)
+-- what holds of the value behind an item
+behind : {X : Type 0} (P : X → Type 0) (Q : Bor X → Type 0) → ((x : Bor X) → Q x → P x.now) → (o : Option (Bor X)) (x : X) → option_map (λ y. y.now) o ≡ Some x → IfSome o Q → P x
+behind P Q m None x e h = absurd (none-some x e)
+behind P Q m (Some y) x e h = subst P (same_Some y.now x e) (m y h)
 
-  pub made : {ys : List B} {n : ℕ} → IsFromFnResult g f ys n → (k : ℕ) (d : B) → k < n → P k (get_or ys k d)
-  made {ys} {n} m k d l = made_from ys f 0 n refl m.each k d (omega arith) (omega arith)
+some : {X : Type 0} (Q : X → Type 0) (o : Option X) → IsSomeAnd o Q → IfSome o Q
+some Q None h = absurd h
+some Q (Some x) h = h
+
+-- `position` over any chain whose run u gave the elements of xs: what it answered, and o, which is the same, is the place of the first element at which the closure answers true
+module _ {S F X : Type 0} {steps : S → Option (Bor X) → S → Type 0} {g : Mut F (Bor X × Unit {0}) Bool} {f : F} (xs : List X) (Yes No : X → Type 0) (u : Run steps)
+    (fits : u.len ≤ length xs) (all : u.whole ≡ true → u.len ≡ length xs) (are : (k : ℕ) (d : X) → k < u.len → option_map (λ y. y.now) (u.at k) ≡ Some (get_or xs k d))
+    (kept : CallKeepsClosure g f) (yes : (x : Bor X) → Called g f (x, tt) true f → Yes x.now) (no : (x : Bor X) → Called g f (x, tt) false f → No x.now) where
+  said_no : (k : ℕ) (d : X) → k < u.len → IfSome (u.at k) (λ x. Called g f (x, tt) false f) → No (get_or xs k d)
+  said_no k d l h = behind No (λ x. Called g f (x, tt) false f) no (u.at k) _ (are k d l) h
+
+  first : (r : Option ℕ) → MatchOption r ((u.whole ≡ true) × AllItemsGive u g f false) (λ i. (u.len ≡ i + 1) × IsFirstToGive u g f true false i)
+      → MatchOption r (AllWithin No xs 0 (length xs)) (λ i. (i < length xs) × HoldsAt Yes xs i × AllWithin No xs 0 i)
+  first None h = λ k d a b. said_no k d (omega (arith, all h.0)) (h.1 kept k)
+  first (Some i) h =
+      let l = h.0 in
+      let at = h.1 kept in (
+        omega (arith, l, fits),
+        (λ d. behind Yes (λ x. Called g f (x, tt) true f) yes (u.at i) _ (are i d (omega (arith, l))) (some _ (u.at i) at.0)),
+        λ k d a b. said_no k d (omega (arith, l)) (some _ (u.at k) (at.1 k b)),
+      )
+
+  pub first_from_run : (r o : Option ℕ) → MatchOption r ((u.whole ≡ true) × AllItemsGive u g f false) (λ i. (u.len ≡ i + 1) × IsFirstToGive u g f true false i) → r ≡ o
+      → MatchOption o (AllWithin No xs 0 (length xs)) (λ i. (i < length xs) × HoldsAt Yes xs i × AllWithin No xs 0 i)
+  first_from_run r o h e = rw e at (first r h)
 
 -- what holds of an element's image holds of the image's element
 pub at_map : {X Y : Type 0} (f : X → Y) (P : Y → Type 0) (d : Y) (xs : List X) (k : ℕ) → k < length xs → HoldsAt (λ x. P (f x)) xs k → P (get_or (map f xs) k d)

@@ -66,7 +66,7 @@ module _ (h : Hall) (s t : Place) (ps : List Place) (gs : List Shape) (o : Obsta
   pub judged_clear : AllRight h s t ps → ((a : ℕ) → a < stretches (length ps) → StretchPasses gs ps a) → Drives h s t ps
   judged_clear a p = drives_if_clear h s t ps sw tw real a.some a.right (λ k l. none_met k l (p k l))
 
-  judged : (r : Result (Unit {0}) Refusal) → AllRight h s t ps → StretchesJudged gs ps r → Judged h s t ps r
+  pub judged : (r : Result (Unit {0}) Refusal) → AllRight h s t ps → StretchesJudged gs ps r → Judged h s t ps r
   judged (Ok x) a j = judged_clear a j
   judged (Err e) a j = judged_blocked e a j
 

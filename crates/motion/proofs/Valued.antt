@@ -1,20 +1,18 @@
 -- The values of a shape's sides at the two ends of a stretch, as the code finds them. Assumes nothing.
-use Rattle.std.proofs.Common.{◌≡◌, ℕ, zero, suc, ◌<◌, ◌≤◌, ◌⊎◌, List, [], ◌∷◌, length, take, get_or, ℤ, ◌≤ℤ◌, ◌<ℤ◌, Decides, Ordering, Less, Equal, Greater, sym, refl, ◌∙◌, subst, ap₂, inl, inr, arith}
+use Rattle.std.proofs.Common.{◌≡◌, ℕ, zero, suc, ◌+◌, ◌<◌, ◌≤◌, ◌≢◌, ◌⊎◌, List, [], ◌∷◌, length, take, set, get_or, ℤ, ◌≤ℤ◌, ◌<ℤ◌, Decides, Ordering, Less, Equal, Greater, ⊎_elim, sym, refl, ◌∙◌, subst, ap₂, inl, inr, arith, below_more}
 use borrow.Author.Differences.{ints}
 use Rattle.std.specs.List.{Any}
 use Rattle.std.specs.Ordering.{MatchOrdering, is_le}
-use Rattle.std.proofs.lemmas.List.{get_or-take, length-map, length-take-le}
-use Rattle.std.proofs.lemmas.Bool.{false≢true}
+use Rattle.std.proofs.lemmas.List.{get_or-set_same, get_or-set_other, get_or-take, length-map, length-take-le}
+use Rattle.std.proofs.lemmas.Bool.{false≢true, cases_eq}
 use Rattle.algebra.specs.Hall.{Corner, Place, Shape, corner, next, side, edge}
 use Rattle.exact.specs.Points.{corner_of, place_of}
 use Rattle.hall.specs.declared.shapes.Shape as code
 use Rattle.hall.specs.Shapes.{shape_of}
-use Rattle.hall.specs.Sides.{CornerPair, sides_of}
-use Rattle.hall.proofs.Walks.{side_pair, length_sides}
 use Rattle.motion.specs.declared.ends.Ends.{Ends}
 use Rattle.motion.specs.declared.stretches.Stretch.{Stretch}
 use Rattle.motion.proofs.Judging.{bounded_holds}
-use Rattle.motion.specs.Ends.{Beside, EndsOf, LatePair}
+use Rattle.motion.specs.Ends.{EndsOf, LatePair, Low}
 use Rattle.motion.specs.Stretch.{Enters, Passes, Outside, Parted, Settled}
 use Rattle.motion.proofs.Settle.{stretch_settled}
 
@@ -40,13 +38,32 @@ module _ (g : Shape) (p q : Place) where
         to = y ∙ ap₂ (λ (c : Corner) (d : Corner). side c d q) c d;
       }
 
+  -- the values of the first sides, none of which shows alone that the stretch passes
+  pub record Found (n : ℕ) (es : List Ends) : Type 0 where
+    pub each : (i : ℕ) (e : Ends) → i < n → EndsOf g p q i (get_or es i e)
+    pub none : (o : Outside g p q) → o.i < n → ⊥
+
+  pub found_none : (es : List Ends) → Found 0 es
+  found_none es = record { each = λ i e l. absurd (omega arith); none = λ o l. absurd (omega arith) }
+
+  -- one more of them is put into the array
+  pub found_more : (es : List Ends) (i : ℕ) (f : Ends) → i < length es → Found i es → EndsOf g p q i f → (Low f → ⊥) → Found (i + 1) (set es i f)
+  found_more es i f l before new high =
+      record {
+        each = λ k e.
+            below_more _ _ (λ m b. let ne : m ≢ i = omega arith in subst (EndsOf g p q m) (sym (get_or-set_other es i m f e ne)) (before.each m e b))
+            (subst (EndsOf g p q i) (sym (get_or-set_same es i f e l)) new) k;
+        none = λ o h.
+            ⊎_elim (λ (x : o.i ≡ i). high (record { from = rw (new.from, ← x) o.from; to = rw (new.to, ← x) o.to })) (λ x. before.none o (omega arith)) (cases_eq o.i i);
+      }
+
   -- as many values as the shape has sides, in their order
-  record Valued (es : List Ends) : Type 0 where
-    same : length es ≡ length g
-    all : (i : ℕ) (e : Ends) → i < length g → EndsOf g p q i (get_or es i e)
+  pub record Valued (es : List Ends) : Type 0 where
+    pub same : length es ≡ length g
+    pub all : (i : ℕ) (e : Ends) → i < length g → EndsOf g p q i (get_or es i e)
 
   -- the first ones of an array
-  valued : {room : ℕ} (n : ℕ) (es : List Ends) → length es ≡ room → n ≤ room → n ≡ length g → ((i : ℕ) (e : Ends) → i < length g → EndsOf g p q i (get_or es i e)) → Valued (take n es)
+  pub valued : {room : ℕ} (n : ℕ) (es : List Ends) → length es ≡ room → n ≤ room → n ≡ length g → ((i : ℕ) (e : Ends) → i < length g → EndsOf g p q i (get_or es i e)) → Valued (take n es)
   valued {room} n es k h e all =
       record {
         same = length-take-le n es (omega arith) ∙ e;
@@ -96,23 +113,8 @@ module _ (g : Shape) (p q : Place) where
     shown h (inr (inl o)) n = absurd (n o)
     shown h (inr (inr d)) n = late_shown d
 
-    passes_shown : Passes g p q → (Outside g p q → ⊥) → Any (λ e. Any (LatePair e) es) es
+    pub passes_shown : Passes g p q → (Outside g p q → ⊥) → Any (λ e. Any (LatePair e) es) es
     passes_shown h = shown h (stretch_settled g p q wp wq).cases
-
--- ---- one side alone
-pub outside_from : (g : Shape) (p q : Place) → Any (Beside p q) (sides_of g) → Outside g p q
-unfolding edge
-outside_from g p q a =
-    let l : a.0 < length g = omega (arith, a.2, length_sides g (length g) 0) in
-    let e = sym a.3 ∙ side_pair g a.0 a.1 l in
-    let b = subst (Beside p q) e a.4 in
-    record { i = a.0; within = l; from = b.from; to = b.to }
-
-pub from_outside : (g : Shape) (p q : Place) → Outside g p q → Any (Beside p q) (sides_of g)
-unfolding edge
-from_outside g p q o =
-    let r : CornerPair = (corner g o.i, corner g (next (length g) o.i)) in
-    (o.i, r, omega (arith, o.within, length_sides g (length g) 0), side_pair g o.i r o.within, record { from = o.from; to = o.to })
 
 -- ---- the values that a stretch of the code has at a shape of the code
 pub few_sides : {n : ℕ} (s : code.Shape n) → length (shape_of s) ≤ n

@@ -1,7 +1,6 @@
 -- The values of a shape's sides at the two ends of a stretch, and what they show. Assumes nothing: these are definitions.
 use Rattle.std.specs.Prelude.{◌≡◌, ℕ, ℤ, pos, ◌*ℤ◌, ◌≤ℤ◌, ◌<ℤ◌}
-use Rattle.algebra.specs.Hall.{Place, Shape, side, edge}
-use Rattle.hall.specs.Sides.{CornerPair}
+use Rattle.algebra.specs.Hall.{Place, Shape, edge}
 use Rattle.motion.specs.declared.ends.Ends.{Ends}
 
 -- a value that goes from a to b, and another that goes from c to d: the first, which falls from above 0, has done so where the other rises above it
@@ -11,11 +10,6 @@ pub record Late (a b c d : ℤ) : Type 0 where
   pub second_from : c ≤ℤ pos 0
   pub second_to : pos 0 <ℤ d
   pub late : (a *ℤ d) ≤ℤ (c *ℤ b)
-
--- the stretch from p to q comes to the left of a side, by its two corners, at neither end
-pub record Beside (p q : Place) (r : CornerPair) : Type 0 where
-  pub from : side r.0 r.1 p ≤ℤ pos 0
-  pub to : side r.0 r.1 q ≤ℤ pos 0
 
 -- ---- as the code has them
 

@@ -1,14 +1,13 @@
 // Whether a straight stretch passes a shape, decided exactly: by the values of the shape's sides at the two ends.
-ghost use Rattle.std.specs.Prelude.{◌≡◌, ℕ, ◌-◌, ◌^◌, ◌<◌, ◌≤◌, length, pos, ◌≤ℤ◌, ◌<ℤ◌, Decides, T, slice_index_or};
+ghost use Rattle.std.specs.Prelude.{◌≡◌, ◌-◌, ◌^◌, ◌≤◌, Decides, T};
 ghost use Rattle.std.specs.List.{Any};
 ghost use Rattle.algebra.specs.Hall.{side};
 ghost use Rattle.algebra.specs.Near.{Near};
 ghost use Rattle.exact.specs.Points.{corner_of, place_of};
 ghost use Rattle.hall.specs.Outlines.{bounded};
 ghost use Rattle.hall.specs.Shapes.{shape_of};
-ghost use Rattle.hall.specs.Sides.{pair_of};
 ghost use Rattle.hall.specs.Tasks.{Bounded};
-ghost use Rattle.motion.specs.Ends.{Beside, EndsOf, LatePair};
+ghost use Rattle.motion.specs.Ends.{LatePair};
 ghost use Rattle.motion.specs.Stretch.{Passes};
 
 use crate::ends::Ends;
@@ -48,39 +47,21 @@ impl Stretch {
         }
     }
 
-    // Whether the stretch comes to the left of a side at neither end. Of most shapes it does so of one of the first sides, and those after it are never asked.
-    fn is_beside(self, s: Side) -> bool
-        ensures { Decides result (Beside (place_of self.from) (place_of self.to) (pair_of s)) }
-    {
-        self.ends_of(s).is_outside()
-    }
-
-    // The values of all sides of a shape, in their order, and 0 past the last.
-    fn ends<const N: usize>(self, shape: &Shape<N>) -> [Ends; N]
-        ensures { (i : ℕ) (e : Ends) → i < length (shape_of shape.now) → EndsOf (shape_of shape.now) (place_of self.from) (place_of self.to) i (slice_index_or result i e) }
-    {
-        std::array::from_fn(
-            |i| -> Ends
-                ensures { i < length (shape_of shape.entry.now) → EndsOf (shape_of shape.entry.now) (place_of self.from) (place_of self.to) i result }
-            {
-                if i < shape.len() {
-                    self.ends_of(shape.side(i))
-                } else {
-                    Ends { from: 0, to: 0 }
-                }
-            },
-        )
-    }
-
     // Whether no place of the stretch is inside the shape; to touch its edge is not to be inside.
     pub fn is_clear<const N: usize>(self, shape: &Shape<N>) -> bool
         requires { N ≤ 256 }
         ensures { Decides result (Passes (shape_of shape.now) (place_of self.from) (place_of self.to)) }
     {
-        if shape.sides().any(|side| self.is_beside(side)) {
-            return true;
+        // Of most shapes one of the first sides settles it, and those after it are never asked. By number, since each value stands at that of its side: none
+        // is computed twice.
+        let mut ends = [Ends { from: 0, to: 0 }; N];
+        for i in 0..shape.len() {
+            let found = self.ends_of(shape.side(i));
+            if found.is_outside() {
+                return true;
+            }
+            ends[i] = found;
         }
-        let ends = self.ends(shape);
         has_parted(&ends[..shape.len()])
     }
 }

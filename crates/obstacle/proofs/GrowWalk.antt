@@ -31,7 +31,7 @@ then_after f n v = grind (arith, nat_tests)
 
 -- ---- what was met until the walks stood at p
 module _ (load thing : Shape) where
-  abbrev met_at : ℕ → ℕ → ℕ → ℕ → Corner
+  abbrev pub met_at : ℕ → ℕ → ℕ → ℕ → Corner
   met_at a b i j = minus (thing_corner load thing a b i) (load_corner load thing a b j)
 
 module _ (load thing : Shape) {m l : ℕ} where

@@ -9,5 +9,5 @@ use Rattle.ledge.proofs.shadows.cast.Goals as goal
 pub returns : goal.returns
 returns g c =
     let s = c.args.surface in
-    cast_by (shape_of c.args.shape.now) (corner_of s.from) (corner_of s.to) _ s refl refl sides_left _ _ (λ s x v h k. (search (rules, tests), search rules)) c.sides.result c.try_fold.new.self c.whole.result c.try_fold.result
-    c.whole.ensures.from c.whole.ensures.to c.sides.ensures c.try_fold.ensures.ran
+    cast_by (shape_of c.args.shape.now) (corner_of s.from) (corner_of s.to) _ s refl refl sides_left _ _ (λ s x v h k. (search (rules, tests), search rules)) _ c.try_fold.new.self c.whole.result c.try_fold.result
+    c.whole.ensures.from c.whole.ensures.to (search rules) c.try_fold.ensures.ran
